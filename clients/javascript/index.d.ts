@@ -1,4 +1,4 @@
-/** What a whole run came to (docs/FORMAT.md, *The report*). */
+/** The summary of a whole run (docs/FORMAT.md, *The report*). */
 export interface Report {
   kind: Kind;
   verdict: "yes" | "no";
@@ -7,7 +7,7 @@ export interface Report {
   refused: number;
   label?: number;
   cause?: Cause;
-  /** Does no order at all explain the history up to the label, and not only the named one? */
+  /** True if no order at all explains the history up to the label, and not only the named order fails. */
   final?: boolean;
 }
 
@@ -16,7 +16,7 @@ export type Cause = "order" | "update" | "query";
 export type Clock = number | bigint;
 /** A clock, or a clock and the replica that made it. */
 export type Stamp = Clock | readonly [Clock, Key];
-/** What can be a key of a map. */
+/** Anything that can be a key of a map. */
 export type Key =
   | string
   | number
@@ -25,7 +25,7 @@ export type Key =
   | symbol
   | readonly unknown[]
   | { readonly [key: string]: unknown };
-/** A value, or what makes it of what the act returned. */
+/** A value, or a function that returns it for the result of the act. */
 export type Told<Value, Done = any> = Value | ((done: Done) => Value);
 
 export class MonitorExited extends Error {}
@@ -36,11 +36,11 @@ export { MonitorExited as MonitorGone };
 export { NotRepresentable as CannotTell };
 
 export class ReportFailed extends Error {
-  /** What the replica did, in the user's words. */
+  /** A description of what the replica did, in the user's names. */
   operation: string;
-  /** What the program answered. */
+  /** The program's reply. */
   reply: string;
-  /** The file with the history up to this report. */
+  /** The file with the history up to this report, which `ra_monitor check` reads. */
   history: string;
 }
 
@@ -57,16 +57,16 @@ export class ReplicaRaised extends ReportFailed {
 }
 
 export interface MonitorOptions {
-  /** The program's path; else that of RA_MONITOR, else the repository's own `ra_monitor`. */
+  /** The path of the program. The default is that of RA_MONITOR, else the repository's own `ra_monitor`. */
   program?: string;
-  /** How many commands are at most in flight. */
+  /** The largest number of commands without a reply. */
   window?: number;
 }
 
 export class Monitor {
   constructor(kind: Kind, names: readonly string[], options?: MonitorOptions);
   readonly program: string;
-  /** The first reply that was not the one that was expected. */
+  /** The first reply that differs from the expected one. */
   readonly unexpected: { command: number; reply: string } | null;
   post(line: string, expected: string): Promise<void> | undefined;
   tell(line: string): Promise<string>;
@@ -77,7 +77,7 @@ export class Monitor {
   stop(): Promise<void>;
 }
 
-/** What `increment` and its fellows make. */
+/** An update, as `increment` and the other functions create it. */
 export interface Operation {
   readonly word: string;
   readonly value?: unknown;
@@ -94,23 +94,23 @@ export function remove(element: Key, mark?: { stamp?: Stamp; identifiers?: Itera
 export function insertAfter(anchor: Key | null, element: Key, stamp: Stamp): Operation;
 
 export interface RecorderOptions extends MonitorOptions {
-  /** The file that the history is written into at the first report that is not answered as right. */
+  /** The file to which the history is written when a report fails. */
   history?: string;
-  /** What a register reads where nothing was written; null, where nothing is said, which undefined is then too. */
+  /** The result of a register's read before the first write. The default is null, and then undefined counts too. */
   nothing?: unknown;
 }
 
 export interface Act<Done> {
-  /** What the replica does. It may be awaited: later steps wait for it. */
+  /** What the replica does. It may be asynchronous; later steps wait for it. */
   act?: () => Done | Promise<Done>;
 }
 
 export interface Sent<Done> extends Act<Done> {
-  /** The key by which the update's delivery names it. */
+  /** The key that the update's deliveries name. */
   message?: Told<Key, Done>;
 }
 
-/** What a replica had seen at one moment. */
+/** The updates that had been delivered to a replica at one moment, as a count for each replica. */
 export interface Seen {
   readonly replica: Key;
   readonly counts: readonly number[];
@@ -121,7 +121,7 @@ export class Recorder {
   update<Done>(replica: Key, operation: Told<Operation, Done>, options?: Sent<Done>): Promise<Done>;
   deliver<Done>(replica: Key, message: Told<Key, Done>, options?: Act<Done>): Promise<Done>;
   merge<Done>(replica: Key, messages: Told<Seen | Iterable<Key>, Done>, options?: Act<Done>): Promise<Done>;
-  /** The new replica joins with all that the source has. Who cannot join is told before the act. */
+  /** Reports a join with a copy of the source's state. An impossible join rejects before the act. */
   join<Done>(replica: Key, source: Key, options?: Act<Done>): Promise<Done>;
   read<Value>(replica: Key, value: Value | (() => Value | Promise<Value>)): Promise<Value>;
   seen(replica: Key): Seen;
@@ -151,7 +151,7 @@ export class Recorder {
   history(): string;
 }
 
-/** Drives replicas through random runs, and rejects with the smallest history of the first one that goes wrong. */
+/** Tests replicas in random runs, and rejects with the smallest history of the first failure. */
 export function checkRandom(
   makeReplica: (name: any) => any,
   kind: Kind,

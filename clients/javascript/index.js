@@ -1,10 +1,10 @@
-// Reports what replicas of a data type do to the monitor, and tries replicas of one's own at random.
+// A client of the monitor of RA-linearizability, which reports what the replicas of a CRDT do.
 //
-// `Monitor` is the program behind a pipe, `Recorder` speaks to it in the user's own names, and `checkRandom` drives a
-// replicated data type through random runs and shrinks the first one that is answered no.
+// `Monitor` runs the program behind a pipe. `Recorder` reports to it in the user's own names. `checkRandom` tests a
+// replicated data type in random runs, and shrinks the first run that has a violation.
 export { MonitorExited, NotLinearizable, NotRepresentable } from "./src/errors.js";
 export { Refused, ReplicaRaised, ReportFailed } from "./src/errors.js";
-// The names that two of them had in the version before; they go with the next one.
+// The names that two of them had in the previous version. The next version removes them.
 export { MonitorExited as MonitorGone, NotRepresentable as CannotTell } from "./src/errors.js";
 export { Monitor } from "./src/monitor.js";
 export { add, decrement, increment, insertAfter, remove, write } from "./src/operations.js";

@@ -1,16 +1,19 @@
-// What can go wrong, as one class for each cause.
+// The errors of the client, one class for each cause.
 
-/** The program could not be started, or ended before its input did. The message has what it said. */
+/** The program could not be started, or exited before its input ended. The message has its standard error. */
 export class MonitorExited extends Error {
   name = "MonitorExited";
 }
 
-/** The text of a history has no words for this: the message says which, and what to do instead. */
+/** The text format cannot represent a value. The message names the value and what to do instead. */
 export class NotRepresentable extends Error {
   name = "NotRepresentable";
 }
 
-/** A report that was not answered as right: what the replica did, what was answered, and the file with the history. */
+/**
+ * A report that the program did not accept: a description of the operation, the reply, and the file with the history
+ * up to this report, which `ra_monitor check` reads.
+ */
 export class ReportFailed extends Error {
   constructor(message, operation, reply, history, options) {
     super(message, options);
@@ -20,7 +23,7 @@ export class ReportFailed extends Error {
   }
 }
 
-/** The program answered no: the cause is `order`, `update` or `query`. */
+/** The program found a violation. The cause is the condition that fails: `order`, `update` or `query`. */
 export class NotLinearizable extends ReportFailed {
   name = "NotLinearizable";
 
@@ -29,7 +32,7 @@ export class NotLinearizable extends ReportFailed {
   }
 }
 
-/** The program refused a report, which says mostly that something was reported wrongly. */
+/** The program rejected a report, for the reason `cause`. The likely cause is that something was reported wrongly. */
 export class Refused extends ReportFailed {
   name = "Refused";
 
@@ -38,7 +41,7 @@ export class Refused extends ReportFailed {
   }
 }
 
-/** A replica of a random run threw an error, which is this one's `cause`. */
+/** A replica of a random run threw an error, which is the `cause` of this one. */
 export class ReplicaRaised extends ReportFailed {
   name = "ReplicaRaised";
 }

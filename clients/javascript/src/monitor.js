@@ -1,16 +1,16 @@
-// The program behind a pipe: lines in, replies out.
+// The program behind a pipe: commands in, replies out.
 import { spawn } from "node:child_process";
 import { MonitorExited } from "./errors.js";
 import * as programs from "./program.js";
 
-// How many lines are written at once. Fewer are written when the event loop turns.
-const LINES_AT_ONCE = 64;
-// How many of the last bytes that the program said are kept.
-const SAID_BYTES = 10_000;
+// The number of lines that are written at once. A smaller batch is written when the event loop turns.
+const BATCH_LINES = 64;
+// The number of bytes of standard error that are kept, counted from the end.
+const STDERR_BYTES = 10_000;
 
 /** A run of the program on one history. */
 export class Monitor {
-  /** The first reply that was not the one that was expected: `{ command, reply }`, commands numbered from 0. */
+  /** The first reply that differs from the expected one: `{ command, reply }`, with commands numbered from 0. */
   unexpected = null;
   #process;
   #window;
@@ -19,17 +19,21 @@ export class Monitor {
   #expected = [];
   #sent = 0;
   #answered = 0;
-  #left = "";
-  #rest = [];
-  #said = "";
+  #partialLine = "";
+  #closingLines = [];
+  #stderr = "";
   #waiting = [];
   #isScheduled = false;
+  #startError = null;
   #isClosing = false;
   #hasEnded = false;
   #report = null;
   #end;
 
-  /** `names` are the replicas' names of the text. At most `window` commands are in flight: they have no reply yet. */
+  /**
+   * `names` are the names of the initial replicas: a letter a to z, then up to 15 letters a to z or digits. At most
+   * `window` commands have no reply yet.
+   */
   constructor(kind, names, { program, window = 4096 } = {}) {
     this.program = programs.find(program);
     this.#window = Math.max(window, 1);
@@ -39,27 +43,27 @@ export class Monitor {
   }
 
   /**
-   * Reports a command, and does not wait for its reply. If that differs, it is `unexpected`. Answers a promise to wait
-   * for where the window is full, and else nothing.
+   * Sends a command without waiting for its reply. `unexpected` is the first reply that differs. Returns a promise to
+   * wait for if the window is full, and undefined otherwise.
    */
   post(line, expected) {
     this.#append(line, expected);
     if (this.#sent - this.#answered >= this.#window) return this.#waitFor(this.#sent - this.#window + 1);
-    if (this.#lines.length >= LINES_AT_ONCE) this.#write();
+    if (this.#lines.length >= BATCH_LINES) this.#write();
     else this.#schedule();
     return undefined;
   }
 
-  /** Reports a command, and answers its reply. */
+  /** Sends a command, waits for its reply and returns it. */
   async tell(line) {
-    const reply = new Promise((resolve) => this.#append(line, resolve));
+    const pending = new Promise((resolve) => this.#append(line, resolve));
     this.#write();
-    const told = await reply;
-    if (told === undefined) this.#throwGone();
-    return told;
+    const reply = await pending;
+    if (reply === undefined) this.#throwExited();
+    return reply;
   }
 
-  /** The reply to `verdict`: is all right so far? */
+  /** Returns the reply to `verdict`, which says whether the history so far is explained. */
   verdict() {
     return this.tell("verdict");
   }
@@ -69,36 +73,36 @@ export class Monitor {
     await this.#waitFor(this.#sent);
   }
 
-  /** The text so far, or that of so many commands. */
+  /** Returns the text so far, or the header with this number of commands. */
   history(commands) {
     const text = this.#written.join("") + this.#lines.join("");
     return commands === undefined ? text : firstLines(text, commands + 2);
   }
 
-  /** Ends the input, and answers what all came to. Closing again answers the same. */
+  /** Ends the input, waits for the program and returns its report. Closing again returns the same report. */
   async close() {
     if (!this.#isClosing) {
       this.#write();
       this.#isClosing = true;
       this.#process.stdin.end();
-      this.#hold();
+      this.#ref();
     }
     await this.#end;
-    if (this.#report === null) this.#throwGone();
+    if (this.#report === null) this.#throwExited();
     return this.#report;
   }
 
-  /** Ends the program, whatever it has answered. */
+  /** Kills the program without waiting for replies. */
   async stop() {
     this.#process.kill("SIGKILL");
-    this.#hold();
+    this.#ref();
     await this.#end;
   }
 
-  #append(given, expected) {
-    const line = given.includes("\n") ? oneLine(given) : given;
-    if (this.#hasEnded || this.#isClosing) this.#throwGone();
-    if (this.#sent === this.#answered) this.#hold();
+  #append(command, expected) {
+    const line = command.includes("\n") ? stripLineEnd(command) : command;
+    if (this.#hasEnded || this.#isClosing) this.#throwExited();
+    if (this.#sent === this.#answered) this.#ref();
     this.#expected.push(expected);
     this.#lines.push(`${line}\n`);
     this.#sent += 1;
@@ -126,84 +130,89 @@ export class Monitor {
     if (this.#answered < answered && !this.#hasEnded) {
       await new Promise((resolve) => this.#waiting.push({ answered, resolve }));
     }
-    if (this.#answered < answered) this.#throwGone();
+    if (this.#answered < answered) this.#throwExited();
   }
 
-  // A program that owes no reply does not keep Node from ending.
-  #letGo() {
+  // Node may exit while the program is idle: its handles are referenced only while a reply is pending.
+  #unref() {
     for (const it of this.#handles()) it.unref();
   }
 
-  #hold() {
+  #ref() {
     for (const it of this.#handles()) it.ref();
   }
 
   #handles() {
     const { stdin, stdout, stderr } = this.#process;
-    // They are lacking where the program could not be started.
+    // The streams are missing if the program could not be started.
     return [this.#process, stdin, stdout, stderr].filter((it) => typeof it?.ref === "function");
   }
 
   #listen(resolve) {
     const { stdin, stdout, stderr } = this.#process;
-    // The program is gone: that is found out, and told, at the end.
+    // A write error means that the program has exited, which is handled when the process closes.
     stdin.on("error", () => {});
-    stdout.setEncoding("latin1").on("data", (chunk) => this.#read(chunk));
-    stderr.setEncoding("utf8").on("data", (chunk) => this.#hear(chunk));
-    const start = (fault) => this.#finish(null, `it could not be started: ${fault.message}`, resolve);
-    this.#process.on("error", start);
-    this.#process.on("close", (code, signal) => this.#finish(code ?? signal, "", resolve));
-    this.#letGo();
+    stdout.setEncoding("latin1").on("data", (chunk) => this.#readReplies(chunk));
+    stderr.setEncoding("utf8").on("data", (chunk) => this.#readStderr(chunk));
+    this.#process.on("error", (error) => {
+      this.#startError = error;
+      this.#finish(null, resolve);
+    });
+    this.#process.on("close", (code, signal) => this.#finish(code ?? signal, resolve));
+    this.#unref();
   }
 
-  #read(chunk) {
-    const replies = (this.#left + chunk).split("\n");
-    this.#left = replies.pop();
-    const known = Math.min(replies.length, this.#expected.length);
-    for (let at = 0; at < known; at += 1) {
-      if (replies[at] !== this.#expected[at]) this.#take(this.#answered + at, this.#expected[at], replies[at]);
+  #readReplies(chunk) {
+    const replies = (this.#partialLine + chunk).split("\n");
+    this.#partialLine = replies.pop();
+    const count = Math.min(replies.length, this.#expected.length);
+    for (let at = 0; at < count; at += 1) {
+      if (replies[at] !== this.#expected[at]) this.#acceptReply(this.#answered + at, this.#expected[at], replies[at]);
     }
-    this.#rest.push(...replies.slice(known));
-    this.#expected.splice(0, known);
-    this.#answered += known;
-    if (this.#sent === this.#answered && !this.#isClosing) this.#letGo();
-    this.#wake();
+    this.#closingLines.push(...replies.slice(count));
+    this.#expected.splice(0, count);
+    this.#answered += count;
+    if (this.#sent === this.#answered && !this.#isClosing) this.#unref();
+    this.#resolveWaiting();
   }
 
-  #take(command, expected, reply) {
+  #acceptReply(command, expected, reply) {
     if (typeof expected === "function") expected(reply);
     else if (this.unexpected === null) this.unexpected = { command, reply };
   }
 
-  #wake() {
+  #resolveWaiting() {
     if (this.#waiting.length === 0) return;
-    const ready = (it) => it.answered <= this.#answered || this.#hasEnded;
-    for (const it of this.#waiting.filter(ready)) it.resolve();
-    this.#waiting = this.#waiting.filter((it) => !ready(it));
+    const isReady = (it) => it.answered <= this.#answered || this.#hasEnded;
+    for (const it of this.#waiting.filter(isReady)) it.resolve();
+    this.#waiting = this.#waiting.filter((it) => !isReady(it));
   }
 
-  /** Keeps what the program says. Before its first reply that is how far it is built, and is passed on. */
-  #hear(chunk) {
-    this.#said = (this.#said + chunk).slice(-SAID_BYTES);
+  /** Keeps the end of standard error. Progress of a build, before the first reply, is passed on. */
+  #readStderr(chunk) {
+    this.#stderr = (this.#stderr + chunk).slice(-STDERR_BYTES);
     if (this.#answered === 0 && /^(building|proving|proved)/.test(chunk)) process.stderr.write(chunk);
   }
 
-  #finish(status, fault, resolve) {
+  #finish(status, resolve) {
     if (this.#hasEnded) return;
     this.#hasEnded = true;
-    if (programs.WHOLE.includes(status) && this.#rest.length === 2) this.#report = JSON.parse(this.#rest[1]);
+    const isComplete = programs.COMPLETE.includes(status) && this.#closingLines.length === 2;
+    if (isComplete) this.#report = JSON.parse(this.#closingLines[1]);
     this.status = status;
-    this.#said += fault;
     for (const it of this.#expected.filter((it) => typeof it === "function")) it(undefined);
-    this.#wake();
+    this.#resolveWaiting();
     resolve();
   }
 
-  #throwGone() {
+  #throwExited() {
     if (this.#isClosing && (this.#report !== null || !this.#hasEnded)) {
-      throw new MonitorExited("the monitor was closed");
+      throw new MonitorExited("the monitor was closed and accepts no more commands");
     }
-    throw new MonitorExited(programs.describeExit(this.program, this.status, this.#said, this.history()));
+    if (this.#startError !== null) {
+      throw new MonitorExited(`${this.program} could not be started: ${this.#startError.message}`);
+    }
+    throw new MonitorExited(programs.describeExit(this.program, this.status, this.#stderr, this.history()));
   }
 }
 
@@ -213,9 +222,11 @@ function firstLines(text, count) {
   return text.slice(0, end);
 }
 
-/** The line without its end. */
-function oneLine(text) {
+/** Returns the line without its end. Throws if the text has more than one line. */
+function stripLineEnd(text) {
   const line = text.endsWith("\n") ? text.slice(0, -1) : text;
-  if (line.includes("\n")) throw new TypeError(`${JSON.stringify(text)} is more than one line`);
+  if (line.includes("\n")) {
+    throw new TypeError(`${JSON.stringify(text)} is more than one line: send each command by itself`);
+  }
   return line;
 }

@@ -1,17 +1,17 @@
-// Numbers of the text for what the user names, and back.
+// The numbers and names that represent the user's values in the text format.
 import { inspect } from "node:util";
 import { NotRepresentable } from "./errors.js";
 
-// The greatest number of the text.
-const GREATEST = 4_294_967_295;
-// A first clock above that is counted as this one, so that clocks a little before it can still be told.
-const FIRST_GREAT_CLOCK = 1 << 28;
-const MOST_REPLICAS = 64;
+// The largest number of the text format.
+const MAX_NUMBER = 4_294_967_295;
+// The number of a first clock that is too large. It leaves room for clocks that are slightly earlier.
+const NUMBER_OF_LARGE_CLOCK = 1 << 28;
+const MAX_REPLICAS = 64;
 const NAME = /^[a-z][a-z0-9]{0,15}$/;
-const NO_NAMES = ["verdict", "join"];
+const RESERVED_NAMES = ["verdict", "join"];
 
-/** A map whose keys are anything; arrays are one key where they have the same JSON. */
-export class Keys {
+/** A map whose keys are anything; arrays are one key if they have the same JSON. */
+export class KeyMap {
   #things = new Map();
   #arrays = new Map();
 
@@ -24,121 +24,128 @@ export class Keys {
     else this.#things.set(key, value);
   }
 
-  /** The same keys, each with what this answers of its value. */
-  copied(copy) {
-    const made = new Keys();
-    for (const [key, value] of this.#things) made.#things.set(key, copy(value));
-    for (const [key, value] of this.#arrays) made.#arrays.set(key, copy(value));
-    return made;
+  /** Returns a map with the same keys, each with the result of `copyValue` for its value. */
+  copy(copyValue) {
+    const copied = new KeyMap();
+    for (const [key, value] of this.#things) copied.#things.set(key, copyValue(value));
+    for (const [key, value] of this.#arrays) copied.#arrays.set(key, copyValue(value));
+    return copied;
   }
 }
 
-/** Numbers from 1 on, in the order in which what they stand for was first seen. */
-export class Numbers {
-  #numberOf = new Keys();
-  #seen = [];
+/** Numbers for things, from 1 up, in the order of their first use. */
+export class Numbering {
+  #numbers = new KeyMap();
+  #things = [];
 
-  of(thing) {
-    let number = this.#numberOf.get(thing);
+  /** Returns the number of this thing, which is a new one at its first use. */
+  numberOf(thing) {
+    let number = this.#numbers.get(thing);
     if (number === undefined) {
-      number = this.#seen.push(thing);
-      this.#numberOf.set(thing, number);
+      number = this.#things.push(thing);
+      this.#numbers.set(thing, number);
     }
     return number;
   }
 
-  /** A number that stands for nothing else. */
-  fresh() {
-    return this.#seen.push(undefined);
+  /** Returns a new number that represents nothing else. */
+  reserve() {
+    return this.#things.push(undefined);
   }
 
-  back(number) {
-    return this.#seen[number - 1];
+  /** Returns the thing with this number, or undefined if the number was reserved. */
+  thingOf(number) {
+    return this.#things[number - 1];
   }
 }
 
-/** Clocks as they are, or counted from the first one where that is above the greatest number. */
+/** Numbers for clocks: the clocks themselves, or, if the first one is too large, their distance to it. */
 export class Clocks {
-  #less;
+  #offset;
 
-  of(clock) {
+  /** Returns the number of this clock. */
+  numberOf(clock) {
     if (typeof clock !== "bigint" && !Number.isSafeInteger(clock)) {
-      throw new NotRepresentable(`the clock ${inspect(clock)} is no whole number: make it one, in the same order`);
-    }
-    if (this.#less === undefined) this.#less = clock > GREATEST ? BigInt(clock) - BigInt(FIRST_GREAT_CLOCK) : 0n;
-    const number = this.#less === 0n ? Number(clock) : Number(BigInt(clock) - this.#less);
-    if (number < 1) {
       throw new NotRepresentable(
-        `the clock ${clock} is too early: ${this.#less + 1n} is the first one that can be told`,
+        `the clock ${inspect(clock)} is not a whole number: convert clocks to whole numbers in the same order`,
       );
     }
-    if (number > GREATEST) {
-      const last = this.#less + BigInt(GREATEST);
+    if (this.#offset === undefined) {
+      this.#offset = clock > MAX_NUMBER ? BigInt(clock) - BigInt(NUMBER_OF_LARGE_CLOCK) : 0n;
+    }
+    const number = this.#offset === 0n ? Number(clock) : Number(BigInt(clock) - this.#offset);
+    if (number < 1 || number > MAX_NUMBER) {
+      const problem = number < 1 ? "too early" : "too late";
+      const [first, last] = [this.#offset + 1n, this.#offset + BigInt(MAX_NUMBER)];
       throw new NotRepresentable(
-        `the clock ${clock} is too late: ${last} is the last one that can be told in this history`,
+        `the clock ${clock} is ${problem}: this history can represent the clocks from ${first} to ${last}`,
       );
     }
     return number;
   }
 
-  back(number) {
-    return BigInt(number) + (this.#less ?? 0n);
+  /** Returns the clock with this number. */
+  clockOf(number) {
+    return BigInt(number) + (this.#offset ?? 0n);
   }
 }
 
-const isName = (it) => typeof it === "string" && NAME.test(it) && !NO_NAMES.includes(it);
+const isName = (key) => typeof key === "string" && NAME.test(key) && !RESERVED_NAMES.includes(key);
 
 function freeNames(taken) {
-  return Array.from({ length: 2 * MOST_REPLICAS }, (_, number) => `r${number}`).filter((it) => !taken.includes(it));
+  return Array.from({ length: 2 * MAX_REPLICAS }, (_, number) => `r${number}`).filter((it) => !taken.includes(it));
 }
 
 /**
- * The replicas' names of the text, in the order in which a type breaks ties: those that are there from the start, and
- * then those that join.
+ * The replicas in the order in which the type breaks ties, lowest first, with their names in the text format. `keys`
+ * are what the user calls them. The initial replicas come first, and those that joined follow.
  */
 export class Replicas {
-  #places = new Keys();
+  #indexes = new KeyMap();
 
   constructor(replicas) {
-    this.given = [...replicas];
-    this.given.forEach((it, place) => this.#places.set(it, place));
-    const areDistinct = this.given.every((it, place) => this.#places.get(it) === place);
-    if (this.given.length < 1 || this.given.length > MOST_REPLICAS || !areDistinct) {
-      const told = inspect(this.given);
-      throw new NotRepresentable(`there are 1 to ${MOST_REPLICAS} replicas with names of their own, and not ${told}`);
+    this.keys = [...replicas];
+    this.keys.forEach((it, index) => this.#indexes.set(it, index));
+    const areDistinct = this.keys.every((it, index) => this.#indexes.get(it) === index);
+    if (this.keys.length < 1 || this.keys.length > MAX_REPLICAS || !areDistinct) {
+      const keys = inspect(this.keys);
+      throw new NotRepresentable(`expected 1 to ${MAX_REPLICAS} replicas with distinct names, got ${keys}`);
     }
-    const free = freeNames(this.given);
-    this.names = this.given.map((it) => (isName(it) ? it : free.shift()));
-    this.firstNames = [...this.names];
+    const free = freeNames(this.keys);
+    this.names = this.keys.map((it) => (isName(it) ? it : free.shift()));
+    this.initialNames = [...this.names];
   }
 
-  /** Throws what tells why it cannot join, if it cannot. */
-  lookForRoom(replica) {
-    if (this.#places.get(replica) !== undefined) {
-      throw new NotRepresentable(`there is a replica ${inspect(replica)} already: who joins has a name of its own`);
+  /** Throws `NotRepresentable` if this replica cannot join. */
+  checkJoin(replica) {
+    if (this.#indexes.get(replica) !== undefined) {
+      const reason = "a replica of this name exists, so choose another name";
+      throw new NotRepresentable(`${inspect(replica)} cannot join: ${reason}`);
     }
-    if (this.given.length === MOST_REPLICAS) {
-      const told = `there are ${MOST_REPLICAS} replicas, and no more can be told`;
-      throw new NotRepresentable(`${inspect(replica)} cannot join: ${told}`);
+    if (this.keys.length === MAX_REPLICAS) {
+      const reason = `the history has ${MAX_REPLICAS} replicas, which is the maximum; use a new Recorder`;
+      throw new NotRepresentable(`${inspect(replica)} cannot join: ${reason}`);
     }
   }
 
-  /** One more replica. */
+  /** Adds this replica as the last one. */
   join(replica) {
-    this.lookForRoom(replica);
+    this.checkJoin(replica);
     const isFree = isName(replica) && !this.names.includes(replica);
     this.names.push(isFree ? replica : freeNames(this.names)[0]);
-    this.#places.set(replica, this.given.length);
-    this.given.push(replica);
+    this.#indexes.set(replica, this.keys.length);
+    this.keys.push(replica);
   }
 
-  place(replica) {
-    const place = this.#places.get(replica);
-    if (place !== undefined) return place;
-    throw new NotRepresentable(`there is no replica ${inspect(replica)}, but ${inspect(this.given)}`);
+  /** Returns the number of this replica, counted from 0. */
+  indexOf(replica) {
+    const index = this.#indexes.get(replica);
+    if (index !== undefined) return index;
+    throw new NotRepresentable(`unknown replica ${inspect(replica)}: expected one of ${inspect(this.keys)}`);
   }
 
-  back(name) {
-    return this.given[this.names.indexOf(name)];
+  /** Returns what the user calls the replica of this name. */
+  keyOf(name) {
+    return this.keys[this.names.indexOf(name)];
   }
 }

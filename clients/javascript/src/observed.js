@@ -1,33 +1,33 @@
-/** The identifiers under which an OR-Set's replicas have their elements, for types that do not tell them. */
-export class Observed {
+/** The identifiers that each replica has observed, for types that do not expose what a removal removes. */
+export class ObservedIdentifiers {
   #elements;
   #effects = new Map();
 
-  constructor(replicas, makeKeys) {
-    this.#elements = Array.from({ length: replicas }, makeKeys);
+  constructor(replicas, makeMap) {
+    this.#elements = Array.from({ length: replicas }, makeMap);
   }
 
-  /** One more replica has all that this one has. */
+  /** Adds a replica with a copy of the identifiers of the source. */
   join(source) {
-    this.#elements.push(this.#elements[source].copied((had) => new Set(had)));
+    this.#elements.push(this.#elements[source].copy((observed) => new Set(observed)));
   }
 
-  /** The identifiers under which the replica has this element. */
-  at(place, element) {
-    return [...(this.#elements[place].get(element) ?? [])];
+  /** Returns the identifiers of this element at this replica. */
+  identifiersOf(replica, element) {
+    return [...(this.#elements[replica].get(element) ?? [])];
   }
 
-  /** The update with this label was made at this replica. */
-  issue(place, label, effect) {
+  /** Records the effect of the update with this label, and applies it at the replica that issued it. */
+  issue(replica, label, effect) {
     this.#effects.set(label, effect);
-    this.deliver(place, label);
+    this.deliver(replica, label);
   }
 
-  /** The update with this label has reached this replica. */
-  deliver(place, label) {
+  /** Applies the update with this label at this replica. */
+  deliver(replica, label) {
     const { element, identifiers, isAddition } = this.#effects.get(label);
-    const had = this.#elements[place].get(element) ?? new Set();
-    for (const it of identifiers) isAddition ? had.add(it) : had.delete(it);
-    this.#elements[place].set(element, had);
+    const observed = this.#elements[replica].get(element) ?? new Set();
+    for (const it of identifiers) isAddition ? observed.add(it) : observed.delete(it);
+    this.#elements[replica].set(element, observed);
   }
 }

@@ -1,7 +1,8 @@
 // The operations of the five kinds, in the user's own names.
+import { inspect } from "node:util";
 import { NotRepresentable } from "./errors.js";
 
-/** The operations that each kind has. */
+/** The operations of each kind. */
 export const OPERATIONS = {
   counter: ["increment", "decrement"],
   register: ["write"],
@@ -10,24 +11,24 @@ export const OPERATIONS = {
   rga: ["insertAfter", "remove"],
 };
 
-/** The operations of this kind. */
-export function ofKind(kind) {
+/** Returns the names of the operations of this kind. */
+export function operationsOf(kind) {
   if (Object.hasOwn(OPERATIONS, kind)) return OPERATIONS[kind];
-  throw new NotRepresentable(`there is no kind ${kind}, but ${Object.keys(OPERATIONS).join(", ")}`);
+  throw new NotRepresentable(`unknown kind ${inspect(kind)}: expected ${Object.keys(OPERATIONS).join(", ")}`);
 }
 
-/** A counter: one more. */
+/** Creates a counter's increment by one. */
 export const increment = () => ({ word: "increment" });
 
-/** A counter: one less. */
+/** Creates a counter's decrement by one. */
 export const decrement = () => ({ word: "decrement" });
 
-/** A register: this value is written, at this stamp: its clock, or its clock and its replica. */
+/** Creates a register's write of this value. The stamp is a clock, or a clock and its replica. */
 export const write = (value, stamp) => ({ word: "write", value, stamp });
 
 /**
- * A set: this element is put in. An LWW set's addition has a stamp, and an OR-Set's an identifier; where its type does
- * not tell one, the recorder gives it one.
+ * Creates a set's addition of this element, with the stamp of an LWW set or the identifier of an OR-Set. The recorder
+ * chooses an identifier for an OR-Set whose type does not expose one.
  */
 export const add = (element, { stamp, identifier } = {}) => ({
   word: "add",
@@ -37,9 +38,9 @@ export const add = (element, { stamp, identifier } = {}) => ({
 });
 
 /**
- * A set or a list: this element is taken out. An LWW set's removal has a stamp, and an OR-Set's the identifiers that it
- * takes out. Where its type does not tell them, they are those that the replica has by what was reported, and then
- * nothing is said of whether the removal itself saw the right ones.
+ * Creates a removal of this element from a set or a list. An LWW set's removal has a stamp, and an OR-Set's the
+ * identifiers that it removes. If its type does not expose them, the recorder uses those that its replica has observed
+ * according to the reports. Then the monitor does not check which ones it removed.
  */
 export const remove = (element, { stamp, identifiers } = {}) => ({
   word: "remove",
@@ -48,5 +49,5 @@ export const remove = (element, { stamp, identifiers } = {}) => ({
   identifiers: identifiers === undefined ? undefined : [...identifiers],
 });
 
-/** A list: this element is put directly behind the anchor, or at the beginning where that is null. */
+/** Creates a list's insertion of this element directly behind the anchor, or at the start if that is null. */
 export const insertAfter = (anchor, element, stamp) => ({ word: "insertAfter", value: element, anchor, stamp });

@@ -1,16 +1,16 @@
-// Random plans: what replicas do, and what reaches them when, by a seed.
+// Random plans of what replicas do and which updates are delivered to them, determined by a seed.
 
-// Elements of a set are few, so that updates of one element meet.
+// A set has few elements, so that updates of one element are concurrent.
 const SET_ELEMENTS = 3;
-const LONGEST_CUT = 25;
-// So often, at each step, a state is merged in which nothing is new.
-const OLD_STATES = 0.1;
-// So often, at each step, a replica joins that is not there yet.
-const JOINS = 0.15;
-// The steps in which a replica gets what another one has.
-export const COPIES = ["merge", "join"];
+const MAX_DISCONNECTION = 25;
+// The chance, at each step, that a state without new updates is merged.
+const OLD_STATE_CHANCE = 0.1;
+// The chance, at each step, that a further replica joins.
+const JOIN_CHANCE = 0.15;
+// The actions in which a replica receives the state of another one.
+export const COPYING = ["merge", "join"];
 
-/** Random numbers by a seed, which may be any text: small, and good enough to choose steps by (mulberry32). */
+/** Random numbers for a seed, which may be any text (mulberry32: small, and good enough to choose steps). */
 class Random {
   #state = 2_166_136_261;
 
@@ -18,7 +18,7 @@ class Random {
     for (const letter of seed) this.#state = Math.imul(this.#state ^ letter.codePointAt(0), 16_777_619);
   }
 
-  /** A number from 0 to 1. */
+  /** Returns a number from 0 to 1, without 1. */
   chance() {
     this.#state = (this.#state + 0x6d2b79f5) | 0;
     let mixed = Math.imul(this.#state ^ (this.#state >>> 15), 1 | this.#state);
@@ -26,196 +26,211 @@ class Random {
     return ((mixed ^ (mixed >>> 14)) >>> 0) / 4_294_967_296;
   }
 
-  /** A whole number from the first to the last. */
+  /** Returns a whole number from the first to the last. */
   number(first, last) {
     return first + Math.floor(this.chance() * (last - first + 1));
   }
 
-  /** One of these. */
+  /** Returns one item of the list. */
   choice(list) {
     return list[this.number(0, list.length - 1)];
   }
 }
 
 /**
- * Which updates each replica has, what each update had seen, and which elements of a list each replica shows.
+ * The updates that were delivered to each replica, those that each update sees, and the visible list elements.
  *
- * Deliveries are causal, so what a replica has of another's updates is a first part of them: a number says which.
+ * Deliveries are causal, so the updates of one replica are delivered to another in their order, and a count represents
+ * them.
  */
-export class Reach {
+export class DeliveryState {
   #kind;
-  #had;
-  #made;
-  #known = new Map();
+  // For each replica, how many updates of each other one were delivered to it.
+  #delivered;
+  #issued;
+  // For each update its replica, its position among that replica's updates, and the counts of those that it sees.
+  #origins = new Map();
 
   constructor(kind, replicas) {
     this.#kind = kind;
-    this.#had = Array.from({ length: replicas }, () => Array(replicas).fill(0));
-    this.#made = Array.from({ length: replicas }, () => []);
-    this.shown = Array.from({ length: replicas }, () => []);
+    this.#delivered = Array.from({ length: replicas }, () => Array(replicas).fill(0));
+    this.#issued = Array.from({ length: replicas }, () => []);
+    this.visible = Array.from({ length: replicas }, () => []);
   }
 
-  /** Does the replica show what the update of a list names? */
+  /** Returns whether the replica shows the element that a list's update names. */
   canUpdate({ replica, arguments: [first] }) {
-    return this.#kind !== "rga" || first === null || this.shown[replica].includes(first);
+    return this.#kind !== "rga" || first === null || this.visible[replica].includes(first);
   }
 
-  /** The update is made. */
+  /** Records that the replica of this step issues its update. */
   update(step) {
-    const made = this.#made[step.replica];
-    this.#known.set(step.update, { issuer: step.replica, place: made.length, saw: [...this.#had[step.replica]] });
-    made.push(step);
+    const issued = this.#issued[step.replica];
+    const seen = [...this.#delivered[step.replica]];
+    this.#origins.set(step.update, { issuer: step.replica, position: issued.length, seen });
+    issued.push(step);
     this.deliver(step.replica, step.update);
   }
 
-  /** Has the replica all that the update had seen, and not the update? */
+  /** Returns whether all that the update sees, and not the update itself, was delivered to the replica. */
   canDeliver(replica, update) {
-    const known = this.#known.get(update);
-    const had = this.#had[replica];
-    return known !== undefined && had[known.issuer] === known.place && known.saw.every((it, at) => it <= had[at]);
+    const origin = this.#origins.get(update);
+    if (origin === undefined) return false;
+    const delivered = this.#delivered[replica];
+    return delivered[origin.issuer] === origin.position && origin.seen.every((it, at) => it <= delivered[at]);
   }
 
-  /** Has the sender an update that the replica has not? */
-  lacks(replica, sender) {
-    return this.#had[replica].some((own, at) => own < this.#had[sender][at]);
+  /** Returns whether the sender has an update that the replica lacks. */
+  isBehind(replica, sender) {
+    return this.#delivered[replica].some((own, at) => own < this.#delivered[sender][at]);
   }
 
-  /** The updates of these replicas that can be delivered. */
-  ready(replica, senders) {
-    const following = senders.map((it) => this.#made[it][this.#had[replica][it]]).filter((it) => it !== undefined);
-    return following.map((it) => it.update).filter((it) => this.canDeliver(replica, it));
+  /** Returns the updates of these senders that can be delivered to the replica. */
+  deliverable(replica, senders) {
+    const following = senders.map((it) => this.#issued[it][this.#delivered[replica][it]]);
+    const updates = following.filter((it) => it !== undefined).map((it) => it.update);
+    return updates.filter((it) => this.canDeliver(replica, it));
   }
 
-  /** The update is applied at the replica. */
+  /** Records that the update is applied at the replica. */
   deliver(replica, update) {
-    const { issuer, place } = this.#known.get(update);
-    const step = this.#made[issuer][place];
-    this.#had[replica][issuer] = place + 1;
-    if (step.method === "insertAfter") this.shown[replica].push(step.arguments[1]);
-    if (step.method === "remove") this.shown[replica] = this.shown[replica].filter((it) => it !== step.arguments[0]);
+    const { issuer, position } = this.#origins.get(update);
+    const step = this.#issued[issuer][position];
+    const [first, element] = step.arguments;
+    this.#delivered[replica][issuer] = position + 1;
+    if (step.method === "insertAfter") this.visible[replica].push(element);
+    if (step.method === "remove") this.visible[replica] = this.visible[replica].filter((it) => it !== first);
   }
 
-  /** The replica, which has nothing, joins with all that the source has. */
+  /** Records that the replica, which is new, joins with a copy of the source's state. */
   join(replica, source) {
-    this.#had[replica] = [...this.#had[source]];
-    this.shown[replica] = [...this.shown[source]];
+    this.#delivered[replica] = [...this.#delivered[source]];
+    this.visible[replica] = [...this.visible[source]];
   }
 
-  /** The replica merges the state of the sender. Updates were made in the order of their numbers. */
+  /** Records that the replica merges the state of the sender. */
   merge(replica, sender) {
-    const theirs = this.#had[sender];
-    const lacking = this.#made.flatMap((made, at) => made.slice(this.#had[replica][at], theirs[at]));
-    const updates = lacking.map((it) => it.update).sort((one, other) => one - other);
+    const counts = this.#delivered[sender];
+    const missing = this.#issued.flatMap((issued, at) => issued.slice(this.#delivered[replica][at], counts[at]));
+    // Updates are numbered in the order in which they were issued, so this order is causal.
+    const updates = missing.map((it) => it.update).sort((one, other) => one - other);
     for (const it of updates) this.deliver(replica, it);
   }
 }
 
 /**
- * The steps of a plan: `{ what, replica, update, method, arguments }`. The `update` of a merge and of a join is the
- * replica that it comes from. Where replicas `join`, some are there at first, and of the others some join.
+ * Returns the steps of a plan: `{ action, replica, update, method, arguments }`. The action is `update`, `deliver`,
+ * `merge`, `read` or `join`. The `update` of a merge and of a join is the replica whose state is copied. With `join`,
+ * some replicas are initial and some of the others join.
  */
 export function plan(kind, replicas, operations, seed, merges, join = false) {
   return new Planner(kind, replicas, operations, seed, merges, join).plan();
 }
 
+/** The maker of one plan. */
 class Planner {
   #kind;
-  #left;
+  #remaining;
   #merges;
   #random;
   #replicas;
-  #places;
-  #reach;
+  #present;
+  #state;
   #steps = [];
   #updates = 0;
-  #cutUntil;
+  #disconnectedUntil;
 
   constructor(kind, replicas, operations, seed, merges, join) {
     this.#kind = kind;
-    this.#left = operations;
+    this.#remaining = operations;
     this.#merges = merges;
     this.#random = new Random(`${kind} ${replicas} ${operations} ${seed}`);
     this.#replicas = replicas;
-    const first = join ? this.#random.number(1, replicas) : replicas;
-    this.#places = Array.from({ length: first }, (_, place) => place);
-    this.#reach = new Reach(kind, replicas);
-    this.#cutUntil = Array(replicas).fill(0);
+    const initial = join ? this.#random.number(1, replicas) : replicas;
+    this.#present = Array.from({ length: initial }, (_, replica) => replica);
+    this.#state = new DeliveryState(kind, replicas);
+    this.#disconnectedUntil = Array(replicas).fill(0);
   }
 
-  /** Operations, deliveries and reads; at the end mostly all that is under way, and a read at each replica. */
+  /** Returns operations, deliveries and reads. Most plans end with all pending deliveries; all end with reads. */
   plan() {
     const reads = 0.1 + 0.2 * this.#random.chance();
     const deliveries = 0.3 + 0.3 * this.#random.chance();
-    while (this.#left > 0) {
+    while (this.#remaining > 0) {
       const chance = this.#random.chance();
-      if (chance < reads) this.#steps.push({ what: "read", replica: this.#random.choice(this.#places) });
-      else if (chance >= reads + deliveries || !this.#arrive()) this.#update();
-      if (this.#places.length < this.#replicas && this.#random.chance() < JOINS) this.#join();
-      if (this.#merges && this.#random.chance() < OLD_STATES) this.#mergeAnOldState();
+      if (chance < reads) this.#steps.push({ action: "read", replica: this.#random.choice(this.#present) });
+      else if (chance >= reads + deliveries || !this.#deliver()) this.#update();
+      if (this.#present.length < this.#replicas && this.#random.chance() < JOIN_CHANCE) this.#join();
+      if (this.#merges && this.#random.chance() < OLD_STATE_CHANCE) this.#mergeOldState();
       if (this.#random.chance() < 0.03) {
-        this.#cutUntil[this.#random.choice(this.#places)] = this.#steps.length + this.#random.number(5, LONGEST_CUT);
+        const replica = this.#random.choice(this.#present);
+        this.#disconnectedUntil[replica] = this.#steps.length + this.#random.number(5, MAX_DISCONNECTION);
       }
     }
     if (this.#random.chance() < 0.8) {
-      this.#cutUntil.fill(0);
-      while (this.#arrive());
+      this.#disconnectedUntil.fill(0);
+      while (this.#deliver());
     }
-    return [...this.#steps, ...this.#places.map((replica) => ({ what: "read", replica }))];
+    return [...this.#steps, ...this.#present.map((replica) => ({ action: "read", replica }))];
   }
 
-  /** Something arrives, at a replica that is not cut off, from one that is not, in whatever order is causal. */
-  #arrive() {
-    const linked = this.#places.filter((it) => this.#cutUntil[it] <= this.#steps.length);
-    const ready = this.#merges ? this.#readyMerges(linked) : this.#readyDeliveries(linked);
+  /** Adds a delivery between two connected replicas, in any causal order. Returns false if there is none. */
+  #deliver() {
+    const connected = this.#present.filter((it) => this.#disconnectedUntil[it] <= this.#steps.length);
+    const ready = this.#merges ? this.#readyMerges(connected) : this.#readyDeliveries(connected);
     if (ready.length === 0) return false;
     const step = this.#random.choice(ready);
-    this.#reach[step.what](step.replica, step.update);
+    this.#state[step.action](step.replica, step.update);
     this.#steps.push(step);
     return true;
   }
 
-  #readyDeliveries(linked) {
-    return linked.flatMap((replica) =>
-      this.#reach.ready(replica, linked).map((update) => ({ what: "deliver", replica, update })),
+  #readyDeliveries(connected) {
+    return connected.flatMap((replica) =>
+      this.#state.deliverable(replica, connected).map((update) => ({ action: "deliver", replica, update })),
     );
   }
 
-  #readyMerges(linked) {
-    return linked.flatMap((replica) =>
-      linked.filter((it) => this.#reach.lacks(replica, it)).map((update) => ({ what: "merge", replica, update })),
+  #readyMerges(connected) {
+    return connected.flatMap((replica) =>
+      connected
+        .filter((it) => this.#state.isBehind(replica, it))
+        .map((update) => ({ action: "merge", replica, update })),
     );
   }
 
-  #mergeAnOldState() {
-    const pairs = this.#places.flatMap((replica) => this.#places.map((update) => ({ what: "merge", replica, update })));
-    const old = pairs.filter((it) => it.replica !== it.update && !this.#reach.lacks(it.replica, it.update));
+  #mergeOldState() {
+    const merges = this.#present.flatMap((replica) =>
+      this.#present.map((update) => ({ action: "merge", replica, update })),
+    );
+    const old = merges.filter((it) => it.replica !== it.update && !this.#state.isBehind(it.replica, it.update));
     if (old.length > 0) this.#steps.push(this.#random.choice(old));
   }
 
   #join() {
-    const update = this.#random.choice(this.#places);
-    const replica = this.#places.push(this.#places.length) - 1;
-    this.#reach.join(replica, update);
-    this.#steps.push({ what: "join", replica, update });
+    const update = this.#random.choice(this.#present);
+    const replica = this.#present.push(this.#present.length) - 1;
+    this.#state.join(replica, update);
+    this.#steps.push({ action: "join", replica, update });
   }
 
   #update() {
-    this.#left -= 1;
+    this.#remaining -= 1;
     this.#updates += 1;
-    const replica = this.#random.choice(this.#places);
-    const [method, ...given] = this.#operation(replica);
-    const step = { what: "update", replica, update: this.#updates, method, arguments: given };
-    this.#reach.update(step);
+    const replica = this.#random.choice(this.#present);
+    const [method, ...parameters] = this.#chooseOperation(replica);
+    const step = { action: "update", replica, update: this.#updates, method, arguments: parameters };
+    this.#state.update(step);
     this.#steps.push(step);
   }
 
-  #operation(replica) {
+  #chooseOperation(replica) {
     const random = this.#random;
     if (this.#kind === "counter") return [random.choice(["increment", "decrement"])];
     if (this.#kind === "register") return ["write", this.#updates];
     if (this.#kind !== "rga") return [random.choice(["add", "add", "remove"]), random.number(1, SET_ELEMENTS)];
-    const shown = this.#reach.shown[replica];
-    if (shown.length > 0 && random.chance() < 0.25) return ["remove", random.choice(shown)];
-    return ["insertAfter", random.choice([null, ...shown]), this.#updates];
+    const visible = this.#state.visible[replica];
+    if (visible.length > 0 && random.chance() < 0.25) return ["remove", random.choice(visible)];
+    return ["insertAfter", random.choice([null, ...visible]), this.#updates];
   }
 }

@@ -1,14 +1,14 @@
 // Reports what replicas do, in the user's own names.
 import { inspect } from "node:util";
-import { Account, failure } from "./account.js";
 import { NotRepresentable } from "./errors.js";
+import { FailureReport, createError } from "./failure_report.js";
 import { Monitor } from "./monitor.js";
-import { Keys } from "./numbers.js";
-import { Observed } from "./observed.js";
+import { KeyMap } from "./numbers.js";
+import { ObservedIdentifiers } from "./observed.js";
 import * as operations from "./operations.js";
-import { Speller } from "./spelling.js";
+import { Translator } from "./translation.js";
 
-/** What a replica had seen at one moment: how many updates of each replica. */
+/** The updates that had been delivered to a replica at one moment, as a count for each replica. */
 class Seen {
   constructor(replica, counts) {
     this.replica = replica;
@@ -17,155 +17,165 @@ class Seen {
 }
 
 /**
- * Speaks to the monitor for replicas with any names, in the order in which the type breaks ties, lowest first.
+ * A reporter for replicas with any names, given in the order in which the type breaks ties, lowest first.
  *
- * Each call is one step: it runs the act, and reports it before another call's act runs, also where the act is awaited.
- * What is known only after the act (an operation, a message's key, a stamp, a value that is read) may be given as a
- * function, which is called with what the act returned. The first report that is not answered as right rejects with
- * `NotLinearizable` or `Refused`, as soon as the reply is seen, and so does each call after it; with a `window` of 1 it
- * is seen in the call itself.
+ * Each call is one step: it runs the act and reports it before the act of another call runs, also if the act is
+ * asynchronous. What is known only after the act (an operation, a message's key, a stamp, a value that is read) may be
+ * a function, which is called with the result of the act. The first report that fails rejects with `NotLinearizable`
+ * or `Refused` as soon as its reply has arrived, and so does each later call. With a `window` of 1 the call itself
+ * rejects.
  */
 export class Recorder {
-  #speller;
+  #translator;
   #monitor;
   #path;
   #labels = 0;
   #commands = 0;
-  // What is told before the command of a number: whose state is merged.
+  // Lines that a failure report prints before the command of a number, which say whose state is merged.
   #notes = new Map();
-  #had;
+  // For each replica, how many updates of each other one were delivered to it.
+  #delivered;
+  // For each replica, the labels of its updates.
   #updates;
-  #messages = new Keys();
-  #keys = new Map();
+  // The update of each message: its label, its replica, and its position among that replica's updates.
+  #messages = new KeyMap();
+  // The key of each label's message.
+  #messageKeys = new Map();
   #observed;
   #failure = null;
   #last;
 
   constructor(kind, replicas, { program, window, history, nothing, monitor } = {}) {
-    this.#speller = new Speller(kind, replicas, nothing);
-    const { names } = this.#speller.replicas;
+    this.#translator = new Translator(kind, replicas, nothing);
+    const { names } = this.#translator.replicas;
     this.#monitor = monitor ?? new Monitor(kind, names, { program, window });
     this.#path = history;
-    this.#had = names.map(() => names.map(() => 0));
+    this.#delivered = names.map(() => names.map(() => 0));
     this.#updates = names.map(() => []);
-    this.#observed = kind === "orset" ? new Observed(names.length, () => new Keys()) : null;
+    this.#observed = kind === "orset" ? new ObservedIdentifiers(names.length, () => new KeyMap()) : null;
   }
 
-  /** The replica changes something, and answers what the act returns; others get it as the message of this key. */
+  /** Reports an update, and returns the result of the act. `message` is the key that its deliveries name. */
   update(replica, operation, { act, message } = {}) {
-    return this.#step(replica, act, (place, done) => this.#update(place, told(operation, done), told(message, done)));
+    return this.#step(replica, act, (index, result) =>
+      this.#update(index, evaluate(operation, result), evaluate(message, result)),
+    );
   }
 
-  /** The message of this key reaches the replica, which applies it. One that it has already is not reported. */
+  /** Reports that the replica applies the message of this key. A repeated delivery runs the act alone. */
   deliver(replica, message, { act } = {}) {
-    return this.#step(replica, act, (place, done) => this.#deliver(place, this.#sent(told(message, done))));
+    return this.#step(replica, act, (index, result) =>
+      this.#deliver(index, this.#findMessage(evaluate(message, result))),
+    );
   }
 
-  /** The replica merges what has these messages in it, or what another replica had `seen`. */
+  /** Reports that the replica merges a state, given by its messages or by what another replica had `seen`. */
   merge(replica, messages, { act } = {}) {
-    return this.#step(replica, act, (place, done) => this.#merge(place, told(messages, done)));
+    return this.#step(replica, act, (index, result) => this.#merge(index, evaluate(messages, result)));
   }
 
   /**
-   * A new replica joins with all that the source has, which the act copies; at one clock it is the latest one. Who
-   * cannot join, since there is one of this name or there are 64, is told before the act, and the history goes on
-   * without it.
+   * Reports that a new replica joins with a copy of the source's state, which the act makes. It is the last replica in
+   * the order of ties. A join that is impossible, because the name exists or there are 64 replicas, rejects with
+   * `NotRepresentable` before the act, and the history continues without it.
    */
   join(replica, source, { act } = {}) {
-    const look = () => this.#speller.replicas.lookForRoom(replica);
-    return this.#step(source, act, (place) => this.#join(replica, place), look);
+    const check = () => this.#translator.replicas.checkJoin(replica);
+    return this.#step(source, act, (index) => this.#join(replica, index), check);
   }
 
-  /** The replica's value is read: this one, or the one that this function answers. */
+  /** Reports a read of this value, or of the value that this function returns. Returns the value. */
   read(replica, value) {
     const act = typeof value === "function" ? value : () => value;
-    return this.#step(replica, act, (place, done) => this.#read(place, done));
+    return this.#step(replica, act, (index, result) => this.#read(index, result));
   }
 
-  /** What the replica has seen by now, for a `merge` of the state that it has now. */
+  /** Returns the updates that were delivered to the replica so far, for a `merge` of its current state. */
   seen(replica) {
-    return new Seen(replica, [...this.#had[this.#speller.replicas.place(replica)]]);
+    return new Seen(replica, [...this.#delivered[this.#translator.replicas.indexOf(replica)]]);
   }
 
-  /** A counter: one more. */
+  /** Reports a counter's increment by one. */
   increment(replica, options) {
     return this.update(replica, operations.increment(), options);
   }
 
-  /** A counter: one less. */
+  /** Reports a counter's decrement by one. */
   decrement(replica, options) {
     return this.update(replica, operations.decrement(), options);
   }
 
-  /** A register: this value is written. */
+  /** Reports a register's write of this value. */
   write(replica, value, stamp, options) {
-    return this.update(replica, (done) => operations.write(value, told(stamp, done)), options);
+    return this.update(replica, (result) => operations.write(value, evaluate(stamp, result)), options);
   }
 
-  /** A set: this element is put in, with the `stamp` of an LWW set or the `identifier` of an OR-Set. */
+  /** Reports a set's addition, with the `stamp` of an LWW set or the `identifier` of an OR-Set. */
   add(replica, element, { stamp, identifier, ...options } = {}) {
-    const made = (done) => operations.add(element, { stamp: told(stamp, done), identifier: told(identifier, done) });
-    return this.update(replica, made, options);
+    const create = (result) =>
+      operations.add(element, { stamp: evaluate(stamp, result), identifier: evaluate(identifier, result) });
+    return this.update(replica, create, options);
   }
 
-  /** A set or a list: this element is taken out, with the `stamp` of an LWW set or the `identifiers` of an OR-Set. */
+  /** Reports a removal, with the `stamp` of an LWW set or the `identifiers` of an OR-Set. */
   remove(replica, element, { stamp, identifiers, ...options } = {}) {
-    const made = (done) =>
-      operations.remove(element, { stamp: told(stamp, done), identifiers: told(identifiers, done) });
-    return this.update(replica, made, options);
+    const create = (result) =>
+      operations.remove(element, { stamp: evaluate(stamp, result), identifiers: evaluate(identifiers, result) });
+    return this.update(replica, create, options);
   }
 
-  /** A list: this element is put directly behind the anchor, or at the beginning where that is null. */
+  /** Reports a list's insertion directly behind the anchor, or at the start if that is null. */
   insertAfter(replica, anchor, element, stamp, options) {
-    return this.update(replica, (done) => operations.insertAfter(anchor, element, told(stamp, done)), options);
+    const create = (result) => operations.insertAfter(anchor, element, evaluate(stamp, result));
+    return this.update(replica, create, options);
   }
 
-  /** Waits for all replies, and rejects with what they say. */
+  /** Waits for all replies. Rejects with the failure, if there is one. */
   async settle() {
     await this.#last;
     await this.#monitor.settle();
-    this.#look();
+    this.#throwFailure();
   }
 
   /**
-   * Ends the history, and answers what all came to. Rejects with what the replies say, if they say no, and once more
-   * with a `NotRepresentable`: of what follows that nothing was judged.
+   * Ends the history and returns the report. Rejects with the failure, if there is one. A `NotRepresentable` that was
+   * thrown after an act is thrown again, since no later step was checked.
    */
   async close() {
     await this.#last;
     try {
       return await this.#monitor.close();
     } finally {
-      this.#look();
+      this.#throwFailure();
     }
   }
 
-  /** Gives the history up, without asking how it ended. */
+  /** Ends the history without waiting for replies. */
   stop() {
     return this.#monitor.stop();
   }
 
-  /** The text so far, which `ra_monitor check` reads. */
+  /** Returns the text so far, which `ra_monitor check` reads. */
   history() {
     return this.#monitor.history();
   }
 
-  /** The first two lines of the text. */
-  head() {
-    return this.#speller.head();
+  /** Returns the first two lines of the text. */
+  header() {
+    return this.#translator.header();
   }
 
-  /** This text, which is one of this recorder's, in the user's words, without the messages' keys. */
-  account(text) {
-    return new Account(this.#speller, text, new Map(), this.#notes);
+  /** Returns a report on this text of this recorder, without the messages' keys. */
+  failureReport(text) {
+    return new FailureReport(this.#translator, text, new Map(), this.#notes);
   }
 
-  // What `before` throws comes before the act.
+  /** Runs `before` and the act, and calls `report` with the replica's number and the act's result. */
   #step(replica, act, report, before) {
     const run = () => this.#run(replica, act, report, before);
-    const ran = this.#last === undefined ? attempted(run) : this.#last.then(run);
+    const ran = this.#last === undefined ? attempt(run) : this.#last.then(run);
     if (!(ran instanceof Promise)) return Promise.resolve(ran);
-    // Steps that come meanwhile wait for this one.
+    // Later steps wait for this one.
     const last = ran.then(ignore, ignore).then(() => {
       if (this.#last === last) this.#last = undefined;
     });
@@ -174,137 +184,147 @@ export class Recorder {
   }
 
   #run(replica, act, report, before) {
-    this.#look();
-    const place = this.#speller.replicas.place(replica);
+    this.#throwFailure();
+    const index = this.#translator.replicas.indexOf(replica);
     before?.();
-    const done = act?.();
-    if (typeof done?.then === "function") return Promise.resolve(done).then((it) => this.#report(place, it, report));
-    return this.#report(place, done, report);
+    const result = act?.();
+    if (typeof result?.then === "function") {
+      return Promise.resolve(result).then((it) => this.#report(index, it, report));
+    }
+    return this.#report(index, result, report);
   }
 
-  #report(place, done, report) {
-    let isFull;
+  #report(index, result, report) {
+    let space;
     try {
-      isFull = report(place, done);
-    } catch (fault) {
-      // The act was made and is not reported, so what follows would be judged wrongly.
-      if (fault instanceof NotRepresentable) this.#failure = fault;
-      throw fault;
+      space = report(index, result);
+    } catch (error) {
+      // The act has run and is not reported, so the monitor would check later steps against a wrong history.
+      if (error instanceof NotRepresentable) this.#failure = error;
+      throw error;
     }
-    if (isFull === undefined) return done;
-    return isFull.then(() => {
-      this.#look();
-      return done;
+    if (space === undefined) return result;
+    return space.then(() => {
+      this.#throwFailure();
+      return result;
     });
   }
 
-  #look() {
+  #throwFailure() {
     if (this.#failure === null && this.#monitor.unexpected !== null) {
       const { command, reply } = this.#monitor.unexpected;
       const text = this.#monitor.history(command + 1);
-      const account = new Account(this.#speller, text, this.#keys, this.#notes);
-      this.#failure = failure(account, text, reply, this.#path, this.#monitor.program);
+      const report = new FailureReport(this.#translator, text, this.#messageKeys, this.#notes);
+      this.#failure = createError(report, text, reply, this.#path, this.#monitor.program);
     }
     if (this.#failure !== null) throw this.#failure;
   }
 
-  #update(place, given, message) {
-    if (message !== undefined && this.#messages.get(message) !== undefined) {
-      throw new NotRepresentable(`there was a message ${inspect(message)} before: give each its own key`);
-    }
-    const label = this.#labels;
-    const operation = this.#observed === null ? given : this.#identified(place, given);
-    const line = this.#speller.operation(place, operation);
-    this.#labels += 1;
-    if (message !== undefined) {
-      this.#messages.set(message, { label, issuer: place, number: this.#updates[place].length });
-      this.#keys.set(label, message);
-    }
-    this.#updates[place].push(label);
-    this.#had[place][place] += 1;
-    if (this.#observed !== null) {
-      const { value: element, identifiers, word } = operation;
-      this.#observed.issue(place, label, { element, identifiers, isAddition: word === "add" });
-    }
-    return this.#post(line, `ok ${label}`);
-  }
+  // Each of the following returns a promise to wait for if the monitor's window is full, and undefined otherwise.
 
   #post(line, expected) {
     this.#commands += 1;
     return this.#monitor.post(line, expected);
   }
 
-  /** The operation of an OR-Set with identifiers by number. */
-  #identified(place, operation) {
-    const numbers = this.#speller.identifiers;
-    if (operation.identifiers !== undefined) {
-      return { ...operation, identifiers: operation.identifiers.map((it) => numbers.of(it)) };
+  #update(replica, update, message) {
+    if (message !== undefined && this.#messages.get(message) !== undefined) {
+      throw new NotRepresentable(`the message ${inspect(message)} was reported before: each message needs its own key`);
     }
-    const own = operation.word === "add" ? [numbers.fresh()] : this.#observed.at(place, operation.value);
-    return { ...operation, identifiers: own };
+    const label = this.#labels;
+    const operation = this.#observed === null ? update : this.#numberIdentifiers(replica, update);
+    const line = this.#translator.operationLine(replica, operation);
+    this.#labels += 1;
+    if (message !== undefined) {
+      this.#messages.set(message, { label, issuer: replica, position: this.#updates[replica].length });
+      this.#messageKeys.set(label, message);
+    }
+    this.#updates[replica].push(label);
+    this.#delivered[replica][replica] += 1;
+    if (this.#observed !== null) {
+      const { value: element, identifiers, word } = operation;
+      this.#observed.issue(replica, label, { element, identifiers, isAddition: word === "add" });
+    }
+    return this.#post(line, `ok ${label}`);
   }
 
-  #deliver(place, { label, issuer, number }) {
-    const had = this.#had[place];
-    if (number < had[issuer]) return undefined;
-    had[issuer] = number + 1;
-    this.#observed?.deliver(place, label);
-    return this.#post(this.#speller.got(place, label), `got ${label}`);
+  #deliver(replica, { label, issuer, position }) {
+    const delivered = this.#delivered[replica];
+    if (position < delivered[issuer]) return undefined;
+    delivered[issuer] = position + 1;
+    this.#observed?.deliver(replica, label);
+    return this.#post(this.#translator.deliveryLine(replica, label), `got ${label}`);
   }
 
-  #merge(place, messages) {
+  #merge(replica, messages) {
     const isSeen = messages instanceof Seen;
-    if (isSeen) this.#noteMerge(place, messages.replica);
-    const merged = isSeen ? this.#lacking(place, messages) : Array.from(messages, (it) => this.#sent(it));
+    if (isSeen) this.#noteMerge(replica, messages.replica);
+    const merged = isSeen ? this.#missing(replica, messages) : Array.from(messages, (it) => this.#findMessage(it));
+    // Labels are numbered in the order of the reports, so this order is causal.
     merged.sort((one, other) => one.label - other.label);
-    const full = merged.map((it) => this.#deliver(place, it)).filter((it) => it !== undefined);
+    const full = merged.map((it) => this.#deliver(replica, it)).filter((it) => it !== undefined);
     return full.length === 0 ? undefined : Promise.all(full);
   }
 
-  #noteMerge(place, sender) {
-    const note = `${inspect(this.#speller.replicas.given[place])} merges the state of ${inspect(sender)}`;
-    this.#notes.set(this.#commands, [...(this.#notes.get(this.#commands) ?? []), note]);
-  }
-
-  #lacking(place, seen) {
-    const had = this.#had[place];
-    return seen.counts.flatMap((count, issuer) =>
-      this.#updates[issuer].slice(had[issuer], count).map((label, at) => ({ label, issuer, number: had[issuer] + at })),
-    );
-  }
-
   #join(replica, source) {
-    const line = this.#speller.join(replica, source);
-    const place = this.#had.push([...this.#had[source]]) - 1;
-    for (const had of this.#had) had.push(0);
+    const line = this.#translator.join(replica, source);
+    const index = this.#delivered.push([...this.#delivered[source]]) - 1;
+    for (const delivered of this.#delivered) delivered.push(0);
     this.#updates.push([]);
     this.#observed?.join(source);
-    return this.#post(line, `joined ${place}`);
+    return this.#post(line, `joined ${index}`);
   }
 
-  #read(place, value) {
-    const line = this.#speller.read(place, value);
+  #read(replica, value) {
+    const line = this.#translator.readLine(replica, value);
     this.#labels += 1;
     return this.#post(line, `ok ${this.#labels - 1}`);
   }
 
-  #sent(message) {
-    const sent = this.#messages.get(message);
-    if (sent === undefined) {
-      throw new NotRepresentable(`there was no message ${inspect(message)}: report the update that sends it first`);
+  /** Returns the operation of an OR-Set with numbers as identifiers. */
+  #numberIdentifiers(replica, operation) {
+    const numbering = this.#translator.identifiers;
+    if (operation.identifiers !== undefined) {
+      return { ...operation, identifiers: operation.identifiers.map((it) => numbering.numberOf(it)) };
     }
-    return sent;
+    const isAddition = operation.word === "add";
+    const numbers = isAddition ? [numbering.reserve()] : this.#observed.identifiersOf(replica, operation.value);
+    return { ...operation, identifiers: numbers };
+  }
+
+  #noteMerge(replica, sender) {
+    const note = `${inspect(this.#translator.replicas.keys[replica])} merges the state of ${inspect(sender)}`;
+    this.#notes.set(this.#commands, [...(this.#notes.get(this.#commands) ?? []), note]);
+  }
+
+  /** Returns the updates of a state that the replica lacks. */
+  #missing(replica, seen) {
+    const delivered = this.#delivered[replica];
+    return seen.counts.flatMap((count, issuer) => {
+      const first = delivered[issuer];
+      return this.#updates[issuer].slice(first, count).map((label, at) => ({ label, issuer, position: first + at }));
+    });
+  }
+
+  #findMessage(message) {
+    const found = this.#messages.get(message);
+    if (found === undefined) {
+      throw new NotRepresentable(
+        `unknown message ${inspect(message)}: report the update that sends it before its delivery`,
+      );
+    }
+    return found;
   }
 }
 
-// What is given, or what it answers of what the act returned.
-const told = (given, done) => (typeof given === "function" ? given(done) : given);
+// Returns the value, or its result for the act's result if it is a function.
+const evaluate = (value, result) => (typeof value === "function" ? value(result) : value);
 const ignore = () => {};
 
-function attempted(run) {
+function attempt(run) {
   try {
     return run();
-  } catch (fault) {
-    return Promise.reject(fault);
+  } catch (error) {
+    return Promise.reject(error);
   }
 }

@@ -1,11 +1,12 @@
-// Runs of a plan on the user's own replicas, judged by the program.
+// Runs of a plan on the user's own replicas, which the program checks.
+import { inspect } from "node:util";
 import { NotRepresentable } from "./errors.js";
 import * as operations from "./operations.js";
-import { COPIES, Reach } from "./plans.js";
+import { COPYING, DeliveryState } from "./plans.js";
 import { checkText } from "./program.js";
 import { Recorder } from "./recorder.js";
 
-/** Takes a recorder's lines in place of the monitor, so that they are checked in one go. */
+/** A substitute for the monitor that collects a recorder's lines, so that one run of the program checks them. */
 class Transcript {
   unexpected = null;
   lines = [];
@@ -15,31 +16,35 @@ class Transcript {
   }
 }
 
-/** The replicas of one run, and what they were told to do. */
+/** The replicas of one run, with the steps that were executed and the lines that report them. */
 class Run {
-  taken = [];
+  executed = [];
   #kind;
   #names;
   #replicas = new Map();
-  #reach;
+  #state;
   #messages = new Map();
   #transcript = new Transcript();
-  #ends = [];
+  // For each executed step, the number of lines after it.
+  #lineCounts = [];
 
   constructor(setting, steps) {
     this.#kind = setting.kind;
     this.#names = setting.replicas;
-    const names = thereAtFirst(steps).map((place) => {
-      this.#replicas.set(place, setting.makeReplica(this.#names[place]));
-      return this.#names[place];
+    const names = initialReplicas(steps).map((replica) => {
+      this.#replicas.set(replica, setting.makeReplica(this.#names[replica]));
+      return this.#names[replica];
     });
-    this.#reach = new Reach(setting.kind, setting.replicas.length);
+    this.#state = new DeliveryState(setting.kind, setting.replicas.length);
     this.recorder = new Recorder(setting.kind, names, { monitor: this.#transcript });
   }
 
-  /** Takes those steps that can be taken: others need one that was left out. Ends with an error, which it answers. */
-  async takeAll(steps) {
-    const takers = {
+  /**
+   * Executes the steps up to the first error of the user's class, and returns that as `{ error }`, or null. Steps that
+   * depend on a removed step are skipped.
+   */
+  async execute(steps) {
+    const handlers = {
       update: (it) => this.#update(it),
       deliver: (it) => this.#deliver(it),
       merge: (it) => this.#merge(it),
@@ -47,45 +52,45 @@ class Run {
       join: (it) => this.#join(it),
     };
     for (const step of steps) {
-      if (this.#replicas.has(step.replica) === (step.what === "join")) continue;
+      if (this.#replicas.has(step.replica) === (step.action === "join")) continue;
       try {
-        if (!(await takers[step.what](step))) continue;
-      } catch (fault) {
-        if (fault instanceof NotRepresentable) throw fault;
-        this.taken.push(step);
-        return { fault };
+        if (!(await handlers[step.action](step))) continue;
+      } catch (error) {
+        if (error instanceof NotRepresentable) throw error;
+        this.executed.push(step);
+        return { error };
       }
-      this.taken.push(step);
-      this.#ends.push(this.#transcript.lines.length);
+      this.executed.push(step);
+      this.#lineCounts.push(this.#transcript.lines.length);
     }
     return null;
   }
 
-  /** The history, or its first commands. */
+  /** Returns the history, or the header with this number of commands. */
   text(commands) {
-    return this.recorder.head() + this.#transcript.lines.slice(0, commands).join("");
+    return this.recorder.header() + this.#transcript.lines.slice(0, commands).join("");
   }
 
-  /** The steps up to the one that made the command with this number. */
+  /** Returns the steps up to the one that reported the command with this number. */
   stepsTo(command) {
-    return this.taken.slice(0, this.#ends.findIndex((end) => end > command) + 1);
+    return this.executed.slice(0, this.#lineCounts.findIndex((lines) => lines > command) + 1);
   }
 
   async #update(step) {
-    if (!this.#reach.canUpdate(step)) return false;
+    if (!this.#state.canUpdate(step)) return false;
     const message = await this.#replicas.get(step.replica)[step.method](...step.arguments);
     this.#messages.set(step.update, message);
     const operation = operationOf(this.#kind, step, message ?? {});
     await this.recorder.update(this.#names[step.replica], operation, { message: step.update });
-    this.#reach.update(step);
+    this.#state.update(step);
     return true;
   }
 
   async #deliver(step) {
-    if (!this.#reach.canDeliver(step.replica, step.update)) return false;
+    if (!this.#state.canDeliver(step.replica, step.update)) return false;
     await this.#replicas.get(step.replica).receive(this.#messages.get(step.update));
     await this.recorder.deliver(this.#names[step.replica], step.update);
-    this.#reach.deliver(step.replica, step.update);
+    this.#state.deliver(step.replica, step.update);
     return true;
   }
 
@@ -93,7 +98,7 @@ class Run {
     if (step.replica === step.update || !this.#replicas.has(step.update)) return false;
     await this.#replicas.get(step.replica).merge(await this.#replicas.get(step.update).state());
     await this.recorder.merge(this.#names[step.replica], this.recorder.seen(this.#names[step.update]));
-    this.#reach.merge(step.replica, step.update);
+    this.#state.merge(step.replica, step.update);
     return true;
   }
 
@@ -102,11 +107,11 @@ class Run {
     const name = this.#names[step.replica];
     const forked = await this.#replicas.get(step.update).fork(name);
     if (forked === undefined || forked === null) {
-      throw new TypeError(`fork("${name}") answers ${forked}, and not the new replica`);
+      throw new TypeError(`fork(${inspect(name)}) returned ${forked}: expected the new replica`);
     }
     this.#replicas.set(step.replica, forked);
     await this.recorder.join(name, this.#names[step.update]);
-    this.#reach.join(step.replica, step.update);
+    this.#state.join(step.replica, step.update);
     return true;
   }
 
@@ -116,56 +121,65 @@ class Run {
   }
 }
 
-/** The replicas that are there at first, in their order. The others join, each behind all that are there. */
-function thereAtFirst(steps) {
-  const touched = new Set();
+/**
+ * Returns the initial replicas in their order: those that do not join. A replica joins only if its number is above all
+ * that are present, since it is the last one in the order of ties.
+ */
+function initialReplicas(steps) {
+  const used = new Set();
   let joining = [];
   for (const step of steps) {
-    const other = COPIES.includes(step.what) ? step.update : step.replica;
-    const isNew = !touched.has(step.replica) && other !== step.replica;
-    if (step.what === "join" && isNew) joining.push(step.replica);
-    touched.add(step.replica).add(other);
+    const other = COPYING.includes(step.action) ? step.update : step.replica;
+    const isNew = !used.has(step.replica) && other !== step.replica;
+    if (step.action === "join" && isNew) joining.push(step.replica);
+    used.add(step.replica).add(other);
   }
   for (;;) {
-    const first = [...touched].filter((it) => !joining.includes(it)).sort((one, other) => one - other);
-    let last = first.at(-1) ?? -1;
-    const behind = joining.filter((it) => it > last && (last = it) === it);
-    if (behind.length === joining.length) return first;
-    joining = behind;
+    const initial = [...used].filter((it) => !joining.includes(it)).sort((one, other) => one - other);
+    let last = initial.at(-1) ?? -1;
+    const rising = joining.filter((it) => it > last && (last = it) === it);
+    if (rising.length === joining.length) return initial;
+    joining = rising;
   }
 }
 
-/** Runs these steps, as far as they can be taken, and answers how that failed, without the steps behind the fault. */
-export async function failureOf(setting, steps) {
+/** Runs the steps that can be executed and checks the history. Returns the failure, or null if all passed. */
+export async function findFailure(setting, steps) {
   if (steps.length === 0) return null;
   const run = new Run(setting, steps);
-  const raised = await run.takeAll(steps);
+  const raised = await run.execute(steps);
   const { replies } = checkText(setting.program, run.text());
-  const at = replies.findIndex((it) => /^(no|refused) /.test(it));
+  const failed = replies.findIndex((it) => /^(no|refused) /.test(it));
   const { recorder } = run;
-  if (at >= 0) {
-    const cause = replies[at].startsWith("no ") ? "no" : replies[at].split(" ", 2).join(" ");
-    return { cause, steps: run.stepsTo(at), recorder, text: run.text(at + 1), replies: replies.slice(0, at + 1) };
+  if (failed >= 0) {
+    const cause = replies[failed].startsWith("no ") ? "no" : replies[failed].split(" ", 2).join(" ");
+    const text = run.text(failed + 1);
+    return { cause, steps: run.stepsTo(failed), recorder, text, replies: replies.slice(0, failed + 1) };
   }
   if (raised === null) return null;
-  const cause = `raised ${raised.fault?.name}`;
-  return { cause, steps: run.taken, recorder, text: run.text(), replies, raised };
+  const cause = `raised ${raised.error?.name}`;
+  return { cause, steps: run.executed, recorder, text: run.text(), replies, raised };
 }
 
-/** Does the user's class merge states, rather than receive messages, and do its replicas fork? Throws what it lacks. */
+/**
+ * Returns the optional abilities of the user's class: whether it merges states instead of receiving messages, and
+ * whether it forks. Throws if it lacks a method.
+ */
 export function capabilitiesOf(setting) {
-  const words = operations.ofKind(setting.kind);
+  const methods = operations.operationsOf(setting.kind);
   const replica = setting.makeReplica(setting.replicas[0]);
   const has = (it) => typeof replica[it] === "function";
   const merges = !has("receive") && has("merge");
-  const wanted = [...words, "read", ...(merges ? ["state", "merge"] : ["receive"])];
-  const lacking = wanted.filter((it) => !has(it));
-  if (lacking.length === 0) return { merges, forks: has("fork") };
-  const { kind } = setting;
-  throw new TypeError(`a replica of the kind ${kind} has the methods ${wanted}, and this one lacks ${lacking}`);
+  const required = [...methods, "read", ...(merges ? ["state", "merge"] : ["receive"])];
+  const missing = required.filter((it) => !has(it));
+  if (missing.length === 0) return { merges, forks: has("fork") };
+  throw new TypeError(
+    `a replica of the kind ${setting.kind} needs the methods ${required.join(", ")}: ` +
+      `this one lacks ${missing.join(", ")}`,
+  );
 }
 
-/** What the update did, with the stamp or the identifiers that its message tells. */
+/** Returns the operation of an update, with the stamp or the identifiers of its message. */
 function operationOf(kind, step, { stamp, identifier, identifiers }) {
   if (kind === "counter") return operations[step.method]();
   if (kind === "register") return operations.write(...step.arguments, stamp);

@@ -1,60 +1,64 @@
-// Makes a failed run smaller, as long as it fails in the same way. Each try is a real run.
-import { COPIES } from "./plans.js";
+// Shrinks a failed run as long as it fails for the same cause. Each attempt is a real run.
+import { COPYING } from "./plans.js";
 
-// So many steps are few enough to try each two of them.
-const FEW_STEPS = 16;
+// Removing each pair of steps is affordable up to this number of steps.
+const MAX_STEPS_FOR_PAIRS = 16;
 
-/** A run from which no replica, no update and no other step can be left out. */
-export async function shrunk(failure, run) {
+/** Returns a run from which no replica, no update and no other step can be removed. */
+export async function shrink(failure, run) {
   let smallest = failure;
   let before;
   do {
     before = smallest.steps.length;
-    for (const candidates of [withoutAReplica, folded, withoutAPart, withoutAnUpdate, withoutTwoSteps]) {
-      smallest = await smallestOf(smallest, run, candidates);
+    for (const strategy of [removeReplica, uniteReplicas, removeRange, removeUpdate, removePair]) {
+      smallest = await applyStrategy(smallest, run, strategy);
     }
   } while (smallest.steps.length < before);
   return smallest;
 }
 
-/** Tries candidates, and begins anew with each that fails as this one does. */
-async function smallestOf(failure, run, candidates) {
-  for (const steps of candidates(failure.steps)) {
-    const tried = await run(steps);
-    if (tried !== null && tried.cause === failure.cause && tried.steps.length < failure.steps.length) {
-      return smallestOf(tried, run, candidates);
+/** Tries the candidates of a strategy, and starts again from each smaller run that fails for the same cause. */
+async function applyStrategy(failure, run, strategy) {
+  for (const steps of strategy(failure.steps)) {
+    const result = await run(steps);
+    if (result !== null && result.cause === failure.cause && result.steps.length < failure.steps.length) {
+      return applyStrategy(result, run, strategy);
     }
   }
   return failure;
 }
 
-function* withoutAReplica(steps) {
+/** Yields the steps without those of one replica and without all that it sent. */
+function* removeReplica(steps) {
   for (const replica of new Set(steps.map((it) => it.replica))) {
-    const own = steps.filter((it) => it.what === "update" && it.replica === replica).map((it) => it.update);
+    const own = steps.filter((it) => it.action === "update" && it.replica === replica).map((it) => it.update);
     yield steps.filter(
       (it) =>
         it.replica !== replica &&
-        !(it.what === "deliver" && own.includes(it.update)) &&
-        !(COPIES.includes(it.what) && it.update === replica),
+        !(it.action === "deliver" && own.includes(it.update)) &&
+        !(COPYING.includes(it.action) && it.update === replica),
     );
   }
 }
 
-/** One replica does what another one did. */
-function* folded(steps) {
-  const places = [...new Set(steps.map((it) => it.replica))];
-  for (const [gone, kept] of places.flatMap((one) => places.map((other) => [one, other]))) {
-    if (gone === kept) continue;
-    const moved = (place) => (place === gone ? kept : place);
+/** Yields the steps with one replica in the place of another. */
+function* uniteReplicas(steps) {
+  const replicas = [...new Set(steps.map((it) => it.replica))];
+  for (const [removed, kept] of replicas.flatMap((one) => replicas.map((other) => [one, other]))) {
+    if (removed === kept) continue;
+    const moved = (replica) => (replica === removed ? kept : replica);
     yield steps.map((it) => {
-      const update = COPIES.includes(it.what) ? moved(it.update) : it.update;
+      const update = COPYING.includes(it.action) ? moved(it.update) : it.update;
       return { ...it, replica: moved(it.replica), update };
     });
   }
 }
 
-/** Without a half, a quarter, and so on down to one step; the last ones first, since the fault is at the end. */
-function* withoutAPart(steps) {
+/**
+ * Yields the steps without a half, a quarter, down to one step. Later ranges come first, since the failure is at the
+ * end and needs few of the steps before it.
+ */
+function* removeRange(steps) {
   for (let size = steps.length >> 1; size > 0; size >>= 1) {
     for (let end = steps.length; end > 0; end -= size) {
       yield [...steps.slice(0, Math.max(end - size, 0)), ...steps.slice(end)];
@@ -62,15 +66,16 @@ function* withoutAPart(steps) {
   }
 }
 
-function* withoutAnUpdate(steps) {
-  for (const { update } of steps.filter((it) => it.what === "update")) {
-    yield steps.filter((it) => (it.what !== "update" && it.what !== "deliver") || it.update !== update);
+/** Yields the steps without one update and its deliveries. */
+function* removeUpdate(steps) {
+  for (const { update } of steps.filter((it) => it.action === "update")) {
+    yield steps.filter((it) => (it.action !== "update" && it.action !== "deliver") || it.update !== update);
   }
 }
 
-/** A few steps are left by now: some can go only together with another one. */
-function* withoutTwoSteps(steps) {
-  if (steps.length > FEW_STEPS) return;
+/** Yields the steps without two of them, since some can be removed only together. */
+function* removePair(steps) {
+  if (steps.length > MAX_STEPS_FOR_PAIRS) return;
   for (let second = 1; second < steps.length; second += 1) {
     for (let first = 0; first < second; first += 1) yield steps.filter((_, at) => at !== first && at !== second);
   }

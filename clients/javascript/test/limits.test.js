@@ -1,4 +1,4 @@
-// Each limit at its bound: the last value that the text has, which the program accepts, and the first one beyond it.
+// Each limit at its bound: the last value of the format, which the program accepts, and the first value beyond it.
 import assert from "node:assert/strict";
 import { test } from "node:test";
 import { NotRepresentable, NotLinearizable, Recorder, checkRandom } from "../index.js";
@@ -7,9 +7,10 @@ const GREATEST = 4_294_967_295;
 const FIRST_GREAT = 268_435_456;
 const LONGEST = "abcdefghijklmnop";
 const commands = (recorder) => recorder.history().split("\n").slice(2, -1);
-const cannot = (message) => (fault) => fault instanceof NotRepresentable && fault.message.includes(message);
+const isNotRepresentable = (message) => (fault) => fault instanceof NotRepresentable && fault.message.includes(message);
 const numbers = (count) => Array.from({ length: count }, (_, number) => number);
 const oneByOne = { window: 1 };
+const WHOLE_NUMBER = "expected a whole number from -2147483648 to 2147483647";
 
 test("the bounds of a counter's read", async () => {
   for (const value of [2_147_483_647, 2_147_483_647n, -2_147_483_648, -2_147_483_648n]) {
@@ -23,21 +24,21 @@ test("the bounds of a counter's read", async () => {
   }
   for (const value of [2_147_483_648, 2_147_483_648n, -2_147_483_649, -2_147_483_649n]) {
     const recorder = new Recorder("counter", ["a"], oneByOne);
-    await assert.rejects(recorder.read("a", value), cannot("is no whole number of 32 bits"));
+    await assert.rejects(recorder.read("a", value), isNotRepresentable(WHOLE_NUMBER));
     assert.deepEqual(commands(recorder), []);
     await recorder.stop();
   }
 });
 
-test("a counter's read that is no whole number", async () => {
+test("a counter's read that is not a whole number", async () => {
   for (const value of [null, undefined, true, 1.5, NaN, Infinity, "7", "", []]) {
     const recorder = new Recorder("counter", ["a"], oneByOne);
-    await assert.rejects(recorder.read("a", value), cannot("is no whole number of 32 bits"));
+    await assert.rejects(recorder.read("a", value), isNotRepresentable(WHOLE_NUMBER));
     await recorder.stop();
   }
 });
 
-/** The lines of writes with these clocks, which the program accepts. */
+/** Returns the lines of writes with these clocks, which the program accepts. */
 async function written(clocks) {
   const recorder = new Recorder("register", clocks.map((_, place) => `${place}`), oneByOne);
   try {
@@ -57,10 +58,11 @@ test("the bounds of a clock", async () => {
     assert.deepEqual(await written([of(1)]), ["r0 write 1 @1"]);
     assert.deepEqual(await written([of(GREATEST)]), [`r0 write 1 @${GREATEST}`]);
     assert.deepEqual(await written([of(1), of(GREATEST)]), ["r0 write 1 @1", `r1 write 2 @${GREATEST}`]);
-    const late = `${GREATEST + 1} is too late: ${GREATEST} is the last one`;
-    await assert.rejects(written([of(0)]), cannot("0 is too early: 1 is the first one"));
-    await assert.rejects(written([of(1), of(GREATEST + 1)]), cannot(late));
-    await assert.rejects(written([of(GREATEST), of(GREATEST + 1)]), cannot(late));
+    const range = `this history can represent the clocks from 1 to ${GREATEST}`;
+    const late = `${GREATEST + 1} is too late: ${range}`;
+    await assert.rejects(written([of(0)]), isNotRepresentable(`0 is too early: ${range}`));
+    await assert.rejects(written([of(1), of(GREATEST + 1)]), isNotRepresentable(late));
+    await assert.rejects(written([of(GREATEST), of(GREATEST + 1)]), isNotRepresentable(late));
   }
 });
 
@@ -72,43 +74,44 @@ test("the bounds of clocks that are counted from the first one", async () => {
     assert.deepEqual(await written([of(first)]), [line]);
     assert.deepEqual(await written([of(first), of(early)]), [line, "r1 write 2 @1"]);
     assert.deepEqual(await written([of(first), of(late)]), [line, `r1 write 2 @${GREATEST}`]);
-    const tooEarly = `${early - 1} is too early: ${early} is the first one`;
-    const tooLate = `${late + 1} is too late: ${late} is the last one`;
-    await assert.rejects(written([of(first), of(early - 1)]), cannot(tooEarly));
-    await assert.rejects(written([of(first), of(late + 1)]), cannot(tooLate));
+    const range = `this history can represent the clocks from ${early} to ${late}`;
+    const tooEarly = `${early - 1} is too early: ${range}`;
+    const tooLate = `${late + 1} is too late: ${range}`;
+    await assert.rejects(written([of(first), of(early - 1)]), isNotRepresentable(tooEarly));
+    await assert.rejects(written([of(first), of(late + 1)]), isNotRepresentable(tooLate));
   }
 });
 
-test("a clock that no number holds exactly is a bigint", async () => {
+test("a clock that no number represents exactly is a bigint", async () => {
   assert.deepEqual(await written([2 ** 53 - 1, 2n ** 53n]), ["r0 write 1 @268435456", "r1 write 2 @268435457"]);
-  await assert.rejects(written([2 ** 53]), cannot("is no whole number"));
+  await assert.rejects(written([2 ** 53]), isNotRepresentable("is not a whole number"));
 });
 
-test("names of sixteen letters stay, and longer ones are translated", async () => {
-  const kept = [LONGEST, "z123456789012345", "a", "verdic", "joins"].map((it) => [it, it]);
-  const bad = [`${LONGEST}q`, `${LONGEST}0`, "", "1a", "aB", "a_b", "a b", "a\n", "é", "join", "verdict", 1];
-  for (const [given, name] of [...kept, ...bad.map((it) => [it, "r0"])]) {
-    const recorder = new Recorder("counter", [given, "other"], oneByOne);
-    await recorder.increment(given, { message: 1 });
+test("names of sixteen letters are kept, and longer ones are replaced", async () => {
+  const valid = [LONGEST, "z123456789012345", "a", "verdic", "joins"].map((it) => [it, it]);
+  const invalid = [`${LONGEST}q`, `${LONGEST}0`, "", "1a", "aB", "a_b", "a b", "a\n", "é", "join", "verdict", 1];
+  for (const [key, name] of [...valid, ...invalid.map((it) => [it, "r0"])]) {
+    const recorder = new Recorder("counter", [key, "other"], oneByOne);
+    await recorder.increment(key, { message: 1 });
     await recorder.deliver("other", 1);
     assert.equal((await recorder.close()).verdict, "yes");
     assert.equal(recorder.history(), `RAH 2 counter\nreplicas ${name} other\n${name} inc\nother got 0\n`);
     const joined = new Recorder("counter", ["other"], oneByOne);
-    await joined.join(given, "other");
-    await joined.read(given, 0);
+    await joined.join(key, "other");
+    await joined.read(key, 0);
     assert.equal((await joined.close()).verdict, "yes");
     assert.deepEqual(commands(joined), [`join ${name} other`, `${name} read 0`]);
   }
 });
 
 test("a name for each of sixty-four replicas", async () => {
-  // All names but one that the client gives are taken by the user's own.
-  const given = [...numbers(63).map((it) => `r${it}`), "Ann"];
-  const one = new Recorder("counter", given, oneByOne);
+  // The user's names take all but one of the names that the client assigns.
+  const keys = [...numbers(63).map((it) => `r${it}`), "Ann"];
+  const one = new Recorder("counter", keys, oneByOne);
   await one.read("Ann", 0);
   assert.equal((await one.close()).verdict, "yes");
   assert.deepEqual(commands(one), ["r63 read 0"]);
-  const two = new Recorder("counter", [...given.slice(1), "Bob"], oneByOne);
+  const two = new Recorder("counter", [...keys.slice(1), "Bob"], oneByOne);
   await two.read("Ann", 0);
   await two.read("Bob", 0);
   assert.equal((await two.close()).verdict, "yes");
@@ -122,20 +125,22 @@ test("the bounds of the number of replicas", async () => {
     assert.equal((await recorder.close()).verdict, "yes");
     assert.deepEqual(commands(recorder), [`r${count - 1} read 0`]);
   }
-  for (const count of [0, 65]) assert.throws(() => new Recorder("counter", numbers(count)), cannot("1 to 64 replicas"));
+  for (const count of [0, 65]) {
+    assert.throws(() => new Recorder("counter", numbers(count)), isNotRepresentable("1 to 64 replicas"));
+  }
   const twice = () => new Recorder("counter", ["a", "b", "a"]);
-  assert.throws(twice, cannot("replicas with names of their own"));
+  assert.throws(twice, isNotRepresentable("replicas with distinct names"));
 });
 
 test("the names of the replicas of a random run", async () => {
   for (const [count, first, last] of [[1, "a", "a"], [26, "a", "z"], [27, "r00", "r26"], [64, "r00", "r63"]]) {
-    const made = new Set();
+    const created = new Set();
     const make = (name) => {
-      made.add(name);
+      created.add(name);
       return { increment() {}, decrement() {}, receive() {}, read: () => 0 };
     };
     assert.equal(await checkRandom(make, "counter", count, 0, 1), 1);
-    const names = [...made].sort();
+    const names = [...created].sort();
     assert.deepEqual([names.length, names[0], names.at(-1)], [count, first, last]);
   }
 });

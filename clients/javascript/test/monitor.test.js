@@ -1,4 +1,4 @@
-// The program behind a pipe: replies, windows, and programs that are gone.
+// The program behind a pipe: replies, windows, and programs that exit.
 import assert from "node:assert/strict";
 import { spawnSync } from "node:child_process";
 import * as files from "node:fs";
@@ -15,7 +15,7 @@ const folder = realpathSync(mkdtempSync(join(tmpdir(), "yehatu_")));
 after(() => rmSync(folder, { recursive: true }));
 let scripts = 0;
 
-/** A program of these lines. */
+/** Returns the path of a shell script with these lines. */
 function script(...lines) {
   scripts += 1;
   const path = join(folder, `program${scripts}`);
@@ -23,7 +23,7 @@ function script(...lines) {
   return path;
 }
 
-const gone = (message) => (fault) => fault instanceof MonitorExited && message.test(fault.message);
+const hasExited = (message) => (fault) => fault instanceof MonitorExited && message.test(fault.message);
 
 test("each line has its reply", async () => {
   const monitor = new Monitor("counter", ["a", "b"]);
@@ -36,7 +36,7 @@ test("each line has its reply", async () => {
   assert.deepEqual(await monitor.close(), report);
 });
 
-test("a line may have its end, and is one", async () => {
+test("a command is one line, with or without its end", async () => {
   const monitor = new Monitor("counter", ["a"]);
   assert.equal(await monitor.tell("a inc\n"), "ok 0");
   for (const two of ["a inc\na inc", "a inc\n\n"]) {
@@ -46,11 +46,11 @@ test("a line may have its end, and is one", async () => {
   assert.equal((await monitor.close()).labels, 2);
 });
 
-test("a no is told in the report", async () => {
+test("the report has the violation", async () => {
   const monitor = new Monitor("counter", ["a"]);
   assert.equal(await monitor.tell("a read 1"), "no 0 query");
-  const told = { kind: "counter", verdict: "no", labels: 1, calls: 1, refused: 0 };
-  const report = { ...told, label: 0, cause: "query", final: true };
+  const summary = { kind: "counter", verdict: "no", labels: 1, calls: 1, refused: 0 };
+  const report = { ...summary, label: 0, cause: "query", final: true };
   assert.deepEqual(await monitor.close(), report);
 });
 
@@ -69,7 +69,7 @@ test("many callers report to one monitor", async () => {
   await monitor.close();
 });
 
-test("the first other reply is kept", async () => {
+test("the first unexpected reply is recorded", async () => {
   const monitor = new Monitor("counter", ["a"]);
   for (const [number, read] of [0, 5, 6].entries()) monitor.post(`a read ${read}`, `ok ${number}`);
   await monitor.settle();
@@ -78,7 +78,7 @@ test("the first other reply is kept", async () => {
   await monitor.close();
 });
 
-test("what waits for company is written all the same", async () => {
+test("a partial batch is written", async () => {
   const monitor = new Monitor("counter", ["a"]);
   monitor.post("a read 1", "ok 0");
   for (let turn = 0; turn < 1000 && monitor.unexpected === null; turn += 1) {
@@ -88,41 +88,42 @@ test("what waits for company is written all the same", async () => {
   await monitor.close();
 });
 
-test("there is no program", () => {
-  assert.throws(() => new Monitor("counter", ["a"], { program: "/nowhere/program" }), gone(/program is no program/));
+test("a missing program is reported", () => {
+  const create = () => new Monitor("counter", ["a"], { program: "/nowhere/program" });
+  assert.throws(create, hasExited(/program is not a program/));
 });
 
-test("it ends at once and says why", async () => {
+test("a program that exits immediately is reported", async () => {
   const monitor = new Monitor("counter", ["a"], { program: script("echo out of luck >&2", "exit 7") });
-  await assert.rejects(monitor.tell("a inc"), gone(/status 7, and said "out of luck"/));
-  await assert.rejects(monitor.close(), gone(/out of luck/));
+  await assert.rejects(monitor.tell("a inc"), hasExited(/status 7; its standard error is "out of luck"/));
+  await assert.rejects(monitor.close(), hasExited(/out of luck/));
 });
 
-test("it ends while lines are in flight", async () => {
+test("a program that exits with lines in flight is reported", async () => {
   const program = script("read a; read b; read c; echo ok 0; echo tired >&2; exit 2");
   const monitor = new Monitor("counter", ["a"], { program });
   const work = async () => {
     for (let number = 0; number < 100_000; number += 1) await monitor.post("a inc", `ok ${number}`);
     await monitor.settle();
   };
-  await assert.rejects(work(), gone(/status 2, and said "tired"/));
+  await assert.rejects(work(), hasExited(/status 2; its standard error is "tired"/));
 });
 
-test("all callers that wait are told", async () => {
+test("each waiting caller gets the error", async () => {
   const monitor = new Monitor("counter", ["a"], { program: script("read a; sleep 0.1; exit 2") });
-  const told = await Promise.allSettled([monitor.tell("a inc"), monitor.tell("a inc"), monitor.settle()]);
-  assert.deepEqual(told.map((it) => it.reason?.name), Array(3).fill("MonitorExited"));
+  const results = await Promise.allSettled([monitor.tell("a inc"), monitor.tell("a inc"), monitor.settle()]);
+  assert.deepEqual(results.map((it) => it.reason?.name), Array(3).fill("MonitorExited"));
 });
 
 test("as many commands as the window are in flight", { timeout: 60_000 }, async () => {
   for (const [window, least] of [[0, 1], [1, 1], [3, 3]]) {
-    // It answers the first command once there are as many as the window.
+    // It replies to the first command once the window is full.
     const program = script(`${"read line; ".repeat(2 + least)}echo other; exec cat >&2`);
     const monitor = new Monitor("counter", ["a"], { program, window });
     const seen = [];
     for (let number = 0; number < least; number += 1) {
       seen.push(monitor.unexpected);
-      // A call that waits too soon waits for ever.
+      // A call that waits too early never returns.
       await monitor.post("a inc", "ok 0");
     }
     assert.deepEqual([...seen, monitor.unexpected], [...Array(least).fill(null), { command: 0, reply: "other" }]);
@@ -130,25 +131,25 @@ test("as many commands as the window are in flight", { timeout: 60_000 }, async 
   }
 });
 
-test("the end of what a program says is kept", async () => {
+test("the end of standard error is kept", async () => {
   const monitor = new Monitor("counter", ["a"], { program: script("seq 100000 105000 >&2; exit 7") });
   const { message } = await monitor.tell("a inc").catch((fault) => fault);
   // The last 10,000 bytes, in lines of 7.
-  const kept = Array.from({ length: 1428 }, (_, at) => at + 103_573).join("\n");
-  assert.ok(message.endsWith(`status 7, and said ${JSON.stringify(`572\n${kept}`)}`), message);
+  const lastLines = Array.from({ length: 1428 }, (_, at) => at + 103_573).join("\n");
+  assert.ok(message.endsWith(`status 7; its standard error is ${JSON.stringify(`572\n${lastLines}`)}`), message);
 });
 
-test("a fault of the text is told", async () => {
-  await assert.rejects(new Monitor("counter", ["a"]).tell("a increments"), gone(/line 3: syntax/));
+test("a syntax fault is reported", async () => {
+  await assert.rejects(new Monitor("counter", ["a"]).tell("a increments"), hasExited(/line 3: syntax/));
 });
 
-test("a fault of the text is explained", async () => {
+test("a syntax fault is explained", async () => {
   const explains = "if [ $1 = explain ]; then cat; echo is no command; exit 2; fi";
   for (const fault of ["syntax", "truncated", "too long", "full"]) {
     const program = script(explains, `read one; read two; read three; echo line 3: ${fault} >&2; exit 2`);
     const { message } = await new Monitor("counter", ["a"], { program }).tell("a increments").catch((it) => it);
-    const [said, page] = [message.slice(0, message.indexOf("\n\n")), message.slice(message.indexOf("\n\n") + 2)];
-    assert.ok(said.endsWith(`ended with status 2, and said "line 3: ${fault}"`), message);
+    const [description, page] = [message.slice(0, message.indexOf("\n\n")), message.slice(message.indexOf("\n\n") + 2)];
+    assert.ok(description.endsWith(`exited with status 2; its standard error is "line 3: ${fault}"`), message);
     assert.equal(page, "RAH 2 counter\nreplicas a\na increments\nis no command");
   }
 });
@@ -159,16 +160,16 @@ test("the former names of exceptions", () => {
   assert.equal(yehatu.MonitorWent, undefined);
 });
 
-test("a stopped monitor takes nothing more", async () => {
+test("a stopped monitor rejects commands", async () => {
   const monitor = new Monitor("counter", ["a"]);
   await monitor.stop();
   assert.throws(() => monitor.post("a inc", "ok 0"), MonitorExited);
 });
 
-test("a closed monitor takes nothing more", async () => {
+test("a closed monitor rejects commands", async () => {
   const monitor = new Monitor("counter", ["a"]);
   await monitor.close();
-  assert.throws(() => monitor.post("a inc", "ok 0"), gone(/was closed/));
+  assert.throws(() => monitor.post("a inc", "ok 0"), hasExited(/was closed/));
 });
 
 test("a monitor that is left open does not keep the process from ending", () => {
@@ -178,9 +179,8 @@ test("a monitor that is left open does not keep the process from ending", () => 
     console.log(await monitor.tell("a inc"));
     monitor.post("a inc", "ok 1");
     await monitor.settle();`;
-  const words = ["--input-type=module", "--eval", code];
-  const ran = spawnSync(process.execPath, words, { encoding: "utf8", timeout: 20_000 });
-  // Once the replies are there.
+  const options = ["--input-type=module", "--eval", code];
+  const ran = spawnSync(process.execPath, options, { encoding: "utf8", timeout: 20_000 });
   assert.deepEqual([ran.stdout, ran.stderr, ran.status], ["ok 0\n", "", 0]);
 });
 
@@ -190,17 +190,17 @@ test("the environment names the program", async () => {
   const monitor = new Monitor("counter", ["a"]);
   if (before === undefined) delete process.env.RA_MONITOR;
   else process.env.RA_MONITOR = before;
-  await assert.rejects(monitor.tell("a inc"), gone(/of the environment/));
+  await assert.rejects(monitor.tell("a inc"), hasExited(/of the environment/));
 });
 
-test("the repository has a program of its own", () => {
+test("the default program is that of the repository", () => {
   const top = join(folder, "repository");
   const client = join(top, "clients", "javascript");
   cpSync(fileURLToPath(new URL("..", import.meta.url)), client, { recursive: true });
   const built = join(top, "crates", "ra_check_cli", "out");
   mkdirSync(built, { recursive: true });
   symlinkSync(realpathSync(find()), join(built, "ra_check_cli"));
-  // It says so each time that it is started.
+  // It prints a line at each start.
   renameSync(script("echo started >&2", `exec "${built}/ra_check_cli" "$@"`), join(top, "ra_monitor"));
   const code = `
     import { Monitor, checkRandom } from ${JSON.stringify(pathToFileURL(join(client, "index.js")).href)};

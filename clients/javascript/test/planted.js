@@ -1,9 +1,9 @@
-// Ten bugs, planted in the right replicas of each kind in which they make sense.
-import { LwwSet, OrSet, RIGHT, Rga } from "./replicas.js";
+// Ten seeded bugs, in the correct replicas of each kind to which they apply.
+import { LwwSet, OrSet, CORRECT, Rga } from "./replicas.js";
 
-/** Each third message that arrives is not applied. */
-const losesADelivery = (Right) =>
-  class extends Right {
+/** Drops each third message that is delivered. */
+const losesADelivery = (Base) =>
+  class extends Base {
     received = 0;
 
     receive(message) {
@@ -13,9 +13,9 @@ const losesADelivery = (Right) =>
     }
   };
 
-/** Each third message that arrives is applied once more. */
-const appliesTwice = (Right) =>
-  class extends Right {
+/** Applies each third message that is delivered twice. */
+const appliesTwice = (Base) =>
+  class extends Base {
     received = 0;
 
     receive(message) {
@@ -25,17 +25,17 @@ const appliesTwice = (Right) =>
     }
   };
 
-/** At one clock what arrives later counts as later. */
-const breaksTiesByArrival = (Right) =>
-  class extends Right {
+/** Lets the later delivery win at equal clocks. */
+const breaksTiesByArrival = (Base) =>
+  class extends Base {
     isLater([clock], [thanClock]) {
       return this instanceof Rga ? clock > thanClock : clock >= thanClock;
     }
   };
 
-/** A read answers what the one before would have answered, where something arrived in between. */
-const readsStale = (Right) =>
-  class extends Right {
+/** Returns the result before the last delivery, in the first read after it. */
+const readsStale = (Base) =>
+  class extends Base {
     receive(message) {
       this.stale = super.read();
       super.receive(message);
@@ -48,13 +48,13 @@ const readsStale = (Right) =>
     }
   };
 
-/** The clock counts its own updates alone. */
-const doesNotRaiseItsClock = (Right) =>
-  class extends Right {
+/** Counts only its own updates in its clock. */
+const doesNotRaiseItsClock = (Base) =>
+  class extends Base {
     raiseClock() {}
   };
 
-/** A removal that arrives counts, whatever its clock. */
+/** Applies each removal, whatever its clock. */
 class LwwSetTakesUnseen extends LwwSet {
   apply(message) {
     super.apply(message);
@@ -62,7 +62,7 @@ class LwwSetTakesUnseen extends LwwSet {
   }
 }
 
-/** A removal takes the element out, under whatever identifiers it is there. */
+/** Removes all identifiers of the element, also those that the removal has not observed. */
 class OrSetTakesUnseen extends OrSet {
   apply(message) {
     super.apply(message);
@@ -70,7 +70,7 @@ class OrSetTakesUnseen extends OrSet {
   }
 }
 
-/** A removal takes out of sight what stands behind the element too. */
+/** Hides the children of a removed element too. */
 class RgaTakesUnseen extends Rga {
   hide(message) {
     super.hide(message);
@@ -78,7 +78,7 @@ class RgaTakesUnseen extends Rga {
   }
 }
 
-/** An addition that arrives counts, whatever its clock. */
+/** Applies each addition, whatever its clock. */
 class LwwSetShowsAgain extends LwwSet {
   apply(message) {
     super.apply(message);
@@ -86,14 +86,14 @@ class LwwSetShowsAgain extends LwwSet {
   }
 }
 
-/** A removal that arrives takes out the first of its identifiers alone. */
+/** Removes only the first identifier of a removal that is delivered. */
 class OrSetShowsAgain extends OrSet {
   receive(message) {
     super.receive({ ...message, identifiers: message.identifiers?.slice(0, 1) });
   }
 }
 
-/** What is put behind a removed element shows that again. */
+/** Shows a removed element again when another one is inserted behind it. */
 class RgaShowsAgain extends Rga {
   insert(message) {
     super.insert(message);
@@ -101,28 +101,28 @@ class RgaShowsAgain extends Rga {
   }
 }
 
-/** A removal of an element that is not there is forgotten. */
+/** Ignores the removal of an absent element. */
 class LwwSetForgetsAbsent extends LwwSet {
   apply(message) {
     if (message.isIn || this.last.has(message.element)) super.apply(message);
   }
 }
 
-/** A removal of an element that is not there is forgotten. */
+/** Ignores the removal of an absent element. */
 class OrSetForgetsAbsent extends OrSet {
   apply(message) {
     if (message.identifiers === undefined || this.read().includes(message.element)) super.apply(message);
   }
 }
 
-/** Of two elements behind one, that with the earlier clock stands first. */
+/** Puts the child with the earlier clock first. */
 class RgaRises extends Rga {
   isLater(stamp, than) {
     return super.isLater(than, stamp);
   }
 }
 
-/** What is put behind a removed element is lost. */
+/** Loses an element that is inserted behind a removed one. */
 class RgaLosesBehindTombstone extends Rga {
   insert(message) {
     super.insert(message);
@@ -131,24 +131,24 @@ class RgaLosesBehindTombstone extends Rga {
   }
 }
 
-const allOf = (plant, ...kinds) => Object.fromEntries(kinds.map((kind) => [kind, plant(RIGHT[kind])]));
+const allOf = (addBug, ...kinds) => Object.fromEntries(kinds.map((kind) => [kind, addBug(CORRECT[kind])]));
 
 /** The bugs that a history can show. */
-export const SEEN = {
-  "a delivery is lost": allOf(losesADelivery, ...Object.keys(RIGHT)),
+export const OBSERVABLE = {
+  "a delivery is lost": allOf(losesADelivery, ...Object.keys(CORRECT)),
   "a delivery is applied twice": allOf(appliesTwice, "counter"),
   "ties are broken by arrival": allOf(breaksTiesByArrival, "register", "lwwset", "rga"),
   "a removal takes what it has not seen": { lwwset: LwwSetTakesUnseen, orset: OrSetTakesUnseen, rga: RgaTakesUnseen },
   "an element is back after its removal": { lwwset: LwwSetShowsAgain, orset: OrSetShowsAgain, rga: RgaShowsAgain },
-  "a read is stale": allOf(readsStale, ...Object.keys(RIGHT)),
+  "a read is stale": allOf(readsStale, ...Object.keys(CORRECT)),
   "a clock is not raised on delivery": allOf(doesNotRaiseItsClock, "register", "lwwset", "rga"),
   "a removal of an absent element is forgotten": { lwwset: LwwSetForgetsAbsent },
   "children stand in rising order": { rga: RgaRises },
   "an insertion behind a tombstone is lost": { rga: RgaLosesBehindTombstone },
 };
 
-/** Those that change nothing that a replica answers. */
-export const NEVER_SEEN = {
+/** The bugs that change no result of a replica. */
+export const UNOBSERVABLE = {
   "a delivery is applied twice": allOf(appliesTwice, "register", "lwwset", "orset"),
   "a removal of an absent element is forgotten": { orset: OrSetForgetsAbsent },
 };

@@ -1,22 +1,22 @@
-// Random runs: right replicas pass, and each planted bug is found and shrunk.
+// Random runs: correct replicas pass, and each seeded bug is found and shrunk.
 import assert from "node:assert/strict";
 import { spawnSync } from "node:child_process";
 import { readFileSync } from "node:fs";
 import { test } from "node:test";
 import { NotRepresentable, NotLinearizable, Refused, ReplicaRaised, checkRandom } from "../index.js";
 import { plan } from "../src/plans.js";
-import { checkText, findForMany } from "../src/program.js";
-import { NEVER_SEEN, SEEN } from "./planted.js";
-import { Counter, LwwSet, RIGHT, Register, Rga, forking } from "./replicas.js";
+import { checkText, findForManyRuns } from "../src/program.js";
+import { UNOBSERVABLE, OBSERVABLE } from "./planted.js";
+import { Counter, LwwSet, CORRECT, Register, Rga, forking } from "./replicas.js";
 
-// How many runs of right replicas: a thousand were tried, and the gate tries fewer.
+// The number of runs of correct replicas. The gate runs fewer than the thousand of the README.
 const RUNS = Number(process.env.YEHATU_RUNS ?? 60);
-// How soon a bug is found, and how small its history is.
+// The largest number of runs until a bug is found, and the largest number of commands of its history.
 const FOUND_WITHIN = 200;
 const LONGEST_HISTORY = 12;
-const made = (Replica) => (name) => new Replica(name);
+const create = (Replica) => (name) => new Replica(name);
 
-/** A counter whose states are merged: of each replica the greatest numbers of steps up and down. */
+/** A counter with merged states: for each replica the largest numbers of its increments and decrements. */
 class MergedCounter {
   steps = {};
 
@@ -45,14 +45,14 @@ class MergedCounter {
   }
 }
 
-/** A merge adds, so that what both had counts twice. */
+/** Adds the numbers in a merge, so that common updates count twice. */
 class SummingCounter extends MergedCounter {
   merge(state) {
     for (const [key, number] of Object.entries(state)) this.steps[key] = (this.steps[key] ?? 0) + number;
   }
 }
 
-/** A state in which nothing is new overwrites what there is. */
+/** Overwrites its state with one that has nothing new. */
 class ForgetfulCounter extends MergedCounter {
   merge(state) {
     const isOld = Object.entries(state).every(([key, number]) => number <= (this.steps[key] ?? 0));
@@ -61,7 +61,7 @@ class ForgetfulCounter extends MergedCounter {
   }
 }
 
-/** A third element behind one is too much. */
+/** Throws an error at the third element behind one anchor. */
 class RaisingRga extends Rga {
   insert(message) {
     if (this.nodes.get(message.anchor).children.length === 2) throw new RangeError("too many children");
@@ -69,40 +69,40 @@ class RaisingRga extends Rga {
   }
 }
 
-/** The clock stands still. */
+/** Does not advance its clock. */
 class StandingClock extends Rga {
   tick() {
     return [1, this.name];
   }
 }
 
-/** Who joins begins with nothing. */
+/** Forks an empty replica. */
 class ForksWithNothing extends Counter {
   fork(name) {
     return new ForksWithNothing(name);
   }
 }
 
-/** Nobody joins. */
+/** Forks nothing. */
 class ForksIntoNothing extends Counter {
   fork() {}
 }
 
-/** Who joins has the same state, and not a copy of it. */
+/** Forks a replica that shares the state instead of copying it. */
 class ForksShareTheirState extends LwwSet {
   fork(name) {
     return Object.assign(new ForksShareTheirState(name), { ...this, name });
   }
 }
 
-/** Who joins counts its clock from 0. */
+/** Forks a replica whose clock starts at 0. */
 class ForksForgetTheClock extends Register {
   fork(name) {
     return Object.assign(new ForksForgetTheClock(name), { ...this, name, clock: 0 });
   }
 }
 
-/** Who joins writes under the name of its source. */
+/** Forks a replica that keeps the name of its source. */
 class ForksKeepTheName extends Register {
   fork() {
     return Object.assign(new ForksKeepTheName(), this);
@@ -115,12 +115,13 @@ class ForksThrow extends Counter {
   }
 }
 
-function isSmallAndFailsAgain(failed) {
+/** Requires that the history is short, that the message quotes it, and that checking it again fails. */
+function requireSmallFailure(failed) {
   assert.ok(failed instanceof NotLinearizable, failed);
   const text = readFileSync(failed.history, "utf8");
   assert.ok(text.split("\n").length - 3 <= LONGEST_HISTORY, text);
   assert.ok(failed.message.includes(text) && failed.message.includes("seed "));
-  assert.equal(checkText(findForMany(), text).status, 1);
+  assert.equal(checkText(findForManyRuns(), text).status, 1);
 }
 
 /** Runs this for each bug in each kind. */
@@ -130,46 +131,46 @@ async function forEachBug(t, bugs, act) {
   }
 }
 
-test("all runs of each kind are right", async (t) => {
-  for (const [kind, Replica] of Object.entries(RIGHT)) {
-    await t.test(kind, async () => assert.equal(await checkRandom(made(Replica), kind, 3, 30, RUNS), RUNS));
+test("all runs of each kind pass", async (t) => {
+  for (const [kind, Replica] of Object.entries(CORRECT)) {
+    await t.test(kind, async () => assert.equal(await checkRandom(create(Replica), kind, 3, 30, RUNS), RUNS));
   }
 });
 
-// Some of the methods are awaited.
+// Some of the methods are asynchronous.
 test("states that are merged", async () => {
-  assert.equal(await checkRandom(made(MergedCounter), "counter", 3, 30, RUNS), RUNS);
+  assert.equal(await checkRandom(create(MergedCounter), "counter", 3, 30, RUNS), RUNS);
 });
 
 test("replicas with names of their own", async () => {
   const names = ["Ann", "Bob", "Carol", "Dave"];
-  assert.equal(await checkRandom(made(RIGHT.register), "register", names, 20, [7, 9]), 2);
+  assert.equal(await checkRandom(create(CORRECT.register), "register", names, 20, [7, 9]), 2);
 });
 
-test("a seed makes one plan", () => {
+test("a seed determines the plan", () => {
   const [one, same, other] = [5, 5, 6].map((seed) => plan("rga", 3, 30, seed, false));
   assert.deepEqual(one, same);
   assert.notDeepEqual(one, other);
 });
 
-test("all runs of each kind with joins are right", async (t) => {
-  for (const [kind, Replica] of Object.entries(RIGHT)) {
-    await t.test(kind, async () => assert.equal(await checkRandom(made(forking(Replica)), kind, 4, 30, RUNS), RUNS));
+test("all runs of each kind with joins pass", async (t) => {
+  for (const [kind, Replica] of Object.entries(CORRECT)) {
+    await t.test(kind, async () => assert.equal(await checkRandom(create(forking(Replica)), kind, 4, 30, RUNS), RUNS));
   }
 });
 
 test("states that are merged, and replicas that join", async () => {
-  assert.equal(await checkRandom(made(forking(MergedCounter)), "counter", 4, 30, RUNS), RUNS);
+  assert.equal(await checkRandom(create(forking(MergedCounter)), "counter", 4, 30, RUNS), RUNS);
 });
 
 test("many replicas", async () => {
-  assert.equal(await checkRandom(made(forking(Rga)), "rga", 64, 40, 3), 3);
-  assert.equal(await checkRandom(made(Rga), "rga", 20, 40, 3), 3);
+  assert.equal(await checkRandom(create(forking(Rga)), "rga", 64, 40, 3), 3);
+  assert.equal(await checkRandom(create(Rga), "rga", 20, 40, 3), 3);
 });
 
-test("some replicas are there at first, and others join", () => {
+test("some replicas are initial, and others join", () => {
   const joins = Array.from({ length: 20 }, (_, seed) =>
-    plan("rga", 4, 30, seed, false, true).filter((it) => it.what === "join"),
+    plan("rga", 4, 30, seed, false, true).filter((it) => it.action === "join"),
   );
   assert.ok(joins.flat().every((it) => it.update < it.replica));
   const counts = joins.map((it) => it.length);
@@ -180,84 +181,86 @@ const FORKS = { counter: ForksWithNothing, lwwset: ForksShareTheirState, registe
 test("bugs of a copy are found and shrunk", async (t) => {
   for (const [kind, Bug] of Object.entries(FORKS)) {
     await t.test(Bug.name, async () => {
-      const failed = await checkRandom(made(Bug), kind, 3, 30, FOUND_WITHIN).catch((fault) => fault);
-      isSmallAndFailsAgain(failed);
-      assert.match(failed.message, /joins with all that/);
+      const failed = await checkRandom(create(Bug), kind, 3, 30, FOUND_WITHIN).catch((fault) => fault);
+      requireSmallFailure(failed);
+      assert.match(failed.message, /joins with a copy of/);
     });
   }
 });
 
-test("a bug that has nothing to do with joins is shrunk to none", async () => {
-  const Bug = forking(SEEN["children stand in rising order"].rga);
-  const failed = await checkRandom(made(Bug), "rga", 3, 30, FOUND_WITHIN).catch((fault) => fault);
-  isSmallAndFailsAgain(failed);
-  assert.doesNotMatch(failed.message, /joins with all that/);
+test("a failure that needs no join is shrunk to none", async () => {
+  const Bug = forking(OBSERVABLE["children stand in rising order"].rga);
+  const failed = await checkRandom(create(Bug), "rga", 3, 30, FOUND_WITHIN).catch((fault) => fault);
+  requireSmallFailure(failed);
+  assert.doesNotMatch(failed.message, /joins with a copy of/);
 });
 
-test("a copy has a name of its own", async () => {
-  const wanted = (fault) => fault instanceof NotRepresentable && /of another replica than/.test(fault.message);
-  await assert.rejects(checkRandom(made(ForksKeepTheName), "register"), wanted);
+test("a copy that keeps the name of its source is rejected", async () => {
+  const expected = /names another replica: expected/;
+  const isExpected = (fault) => fault instanceof NotRepresentable && expected.test(fault.message);
+  await assert.rejects(checkRandom(create(ForksKeepTheName), "register"), isExpected);
 });
 
-test("a copy that fails is told", async () => {
-  const failed = await checkRandom(made(ForksThrow), "counter").catch((fault) => fault);
+test("a copy that fails is reported", async () => {
+  const failed = await checkRandom(create(ForksThrow), "counter").catch((fault) => fault);
   assert.ok(failed instanceof ReplicaRaised);
   assert.match(failed.operation, /^'a': fork\('([bc])'\) threw RangeError: \1$/);
 });
 
-test("each bug that shows is found and shrunk", (t) =>
-  forEachBug(t, SEEN, async (kind, Replica) => {
-    isSmallAndFailsAgain(await checkRandom(made(Replica), kind, 3, 30, FOUND_WITHIN).catch((fault) => fault));
+test("each observable bug is found and shrunk", (t) =>
+  forEachBug(t, OBSERVABLE, async (kind, Replica) => {
+    requireSmallFailure(await checkRandom(create(Replica), kind, 3, 30, FOUND_WITHIN).catch((fault) => fault));
   }));
 
 test("a merge that counts twice", async () => {
-  isSmallAndFailsAgain(await checkRandom(made(SummingCounter), "counter").catch((fault) => fault));
+  requireSmallFailure(await checkRandom(create(SummingCounter), "counter").catch((fault) => fault));
 });
 
 test("an old state that overwrites", async () => {
-  const failed = await checkRandom(made(ForgetfulCounter), "counter", 3, 30, FOUND_WITHIN).catch((fault) => fault);
-  isSmallAndFailsAgain(failed);
+  const failed = await checkRandom(create(ForgetfulCounter), "counter", 3, 30, FOUND_WITHIN).catch((fault) => fault);
+  requireSmallFailure(failed);
   assert.match(failed.message, /merges the state of/);
 });
 
-test("other bugs change no answer", (t) =>
-  forEachBug(t, NEVER_SEEN, async (kind, Replica) => {
-    assert.equal(await checkRandom(made(Replica), kind, 3, 30, RUNS >> 1), RUNS >> 1);
+test("other bugs change no result", (t) =>
+  forEachBug(t, UNOBSERVABLE, async (kind, Replica) => {
+    assert.equal(await checkRandom(create(Replica), kind, 3, 30, RUNS >> 1), RUNS >> 1);
   }));
 
 test("a replica that fails is shrunk too", async () => {
-  const failed = await checkRandom(made(RaisingRga), "rga").catch((fault) => fault);
+  const failed = await checkRandom(create(RaisingRga), "rga").catch((fault) => fault);
   assert.ok(failed instanceof ReplicaRaised && failed.cause instanceof RangeError);
   assert.match(failed.message, /too many children/);
-  assert.match(failed.message, /steps made [345];/);
+  assert.match(failed.message, /shrunk from [0-9]+ steps to [345];/);
   assert.match(failed.operation, /^'[abc]': insertAfter/);
 });
 
 test("a refused report is shrunk too", async () => {
-  const failed = await checkRandom(made(StandingClock), "rga").catch((fault) => fault);
+  const failed = await checkRandom(create(StandingClock), "rga").catch((fault) => fault);
   assert.ok(failed instanceof Refused && failed.cause === "stamp-taken");
-  assert.match(failed.message, /steps made 2;/);
+  assert.match(failed.message, / steps to 2;/);
 });
 
-test("a class that lacks methods is told", async () => {
-  await assert.rejects(checkRandom(made(Counter), "register"), /lacks write/);
+test("a class that lacks methods is rejected", async () => {
+  const lacking = /needs the methods write, read, receive: this one lacks write/;
+  await assert.rejects(checkRandom(create(Counter), "register"), lacking);
 });
 
-test("a fork that answers nothing is told", async () => {
-  await assert.rejects(checkRandom(made(ForksIntoNothing), "counter"), /fork\('[bc]'\) threw .*answers undefined/);
+test("a fork that returns nothing is reported", async () => {
+  await assert.rejects(checkRandom(create(ForksIntoNothing), "counter"), /fork\('[bc]'\) threw .*returned undefined/);
 });
 
-test("no seed is no test", async () => {
+test("an empty list of seeds is rejected", async () => {
   for (const seeds of [0, []]) {
-    await assert.rejects(checkRandom(made(Counter), "counter", 3, 30, seeds), /nothing was tried/);
+    await assert.rejects(checkRandom(create(Counter), "counter", 3, 30, seeds), /nothing was run/);
   }
 });
 
-test("a kind that is none is told", async () => {
-  await assert.rejects(checkRandom(made(Counter), "list"), /there is no kind list, but counter, /);
+test("an unknown kind is rejected", async () => {
+  await assert.rejects(checkRandom(create(Counter), "list"), /unknown kind 'list': expected counter, /);
 });
 
-test("long runs say how far they are", () => {
+test("long runs report their progress", () => {
   const code = `
     import { checkRandom } from ${JSON.stringify(new URL("../index.js", import.meta.url).href)};
     let now = 0;
@@ -265,5 +268,5 @@ test("long runs say how far they are", () => {
     const replica = () => ({ increment() {}, decrement() {}, receive() {}, read: () => 0 });
     await checkRandom(replica, "counter", 1, 0, 2);`;
   const ran = spawnSync(process.execPath, ["--input-type=module", "--eval", code], { encoding: "utf8" });
-  assert.match(ran.stderr, /checkRandom counter: 2 runs, all right so far/);
+  assert.match(ran.stderr, /checkRandom counter: 2 runs passed so far/);
 });

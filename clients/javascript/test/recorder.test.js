@@ -4,12 +4,12 @@ import { existsSync, readFileSync } from "node:fs";
 import { test } from "node:test";
 import { inspect } from "node:util";
 import { NotRepresentable, MonitorExited, NotLinearizable, Recorder, Refused, write } from "../index.js";
-import { EXPLAINS, checkText, find } from "../src/program.js";
+import { EXPLAIN_PROGRAM, checkText, find } from "../src/program.js";
 
 const NOW = 1_764_076_489_000; // A clock of milliseconds since 1970.
 const commands = (recorder) => recorder.history().split("\n").slice(2, -1);
-const needsExplanations = { skip: !existsSync(EXPLAINS) };
-const cannot = (message) => (fault) => fault instanceof NotRepresentable && message.test(fault.message);
+const needsExplanations = { skip: !existsSync(EXPLAIN_PROGRAM) };
+const isNotRepresentable = (message) => (fault) => fault instanceof NotRepresentable && message.test(fault.message);
 
 test("replicas and values have any names", async () => {
   const recorder = new Recorder("register", ["Ann's phone", 7, ["a", "pair"]]);
@@ -21,7 +21,7 @@ test("replicas and values have any names", async () => {
   assert.deepEqual(commands(recorder), ["r0 write 1 @1", "r1 got 0", "r1 read 1", "r2 read none"]);
 });
 
-test("good names stay", async () => {
+test("valid names are kept", async () => {
   const recorder = new Recorder("counter", ["r1", "Bob", "ann", "verdict"]);
   assert.match(recorder.history(), /replicas r1 r0 ann r2\n/);
   await recorder.close();
@@ -48,18 +48,18 @@ test("a set may be read in any order", async () => {
   assert.equal(commands(set).at(-1), "a read 1,3");
 });
 
-test("what nothing written reads as can be named", async () => {
+test("the value of an unwritten register can be chosen", async () => {
   const recorder = new Recorder("register", ["a"], { nothing: 0 });
   await recorder.read("a", 0);
   await recorder.write("a", null, 1);
   await recorder.read("a", null);
   await recorder.close();
   const other = new Recorder("register", ["a"]);
-  await assert.rejects(other.write("a", undefined, 1), cannot(/name another `nothing`/));
+  await assert.rejects(other.write("a", undefined, 1), isNotRepresentable(/pass another `nothing`/));
   await other.stop();
 });
 
-test("great clocks are counted from the first one", async () => {
+test("large clocks are counted from the first one", async () => {
   for (const [now, back] of [[NOW, NOW - 5], [BigInt(NOW) * 1_000_000n, BigInt(NOW) * 1_000_000n - 5n]]) {
     const recorder = new Recorder("register", ["a", "b"]);
     await recorder.write("a", 1, [now, "a"], { message: 1 });
@@ -71,36 +71,36 @@ test("great clocks are counted from the first one", async () => {
   }
 });
 
-test("a read that lists nothing says so", async () => {
+test("a read that returns no list is rejected", async () => {
   for (const kind of ["lwwset", "orset", "rga"]) {
     const recorder = new Recorder(kind, ["a", "b"]);
-    await assert.rejects(recorder.read("a", undefined), /a read of undefined lists nothing/);
+    await assert.rejects(recorder.read("a", undefined), /a read returned undefined: expected an array/);
   }
 });
 
-test("clocks that cannot be told say so", async () => {
+test("clocks that cannot be represented are rejected", async () => {
   const wrong = [
     [[NOW, NOW - 2 ** 28], /too early/],
     [[NOW, NOW + 2 ** 32], /too late/],
     [[1, 2 ** 32], /too late/],
     [[0], /too early/],
-    [[1.5], /no whole number/],
-    [["noon"], /no whole number/],
-    [[[1, "b"]], /of another replica than 'a'/],
-    [[undefined], /there is no stamp/],
+    [[1.5], /not a whole number/],
+    [["noon"], /not a whole number/],
+    [[[1, "b"]], /names another replica: expected 'a'/],
+    [[undefined], /the stamp is missing/],
   ];
-  for (const [clocks, said] of wrong) {
+  for (const [clocks, message] of wrong) {
     const recorder = new Recorder("register", ["a", "b"]);
     const work = async () => {
       for (const [number, clock] of clocks.entries()) await recorder.write("a", number, clock);
     };
-    await assert.rejects(work(), cannot(said));
+    await assert.rejects(work(), isNotRepresentable(message));
     await assert.rejects(recorder.read("a", 1), NotRepresentable);
     await recorder.stop();
   }
 });
 
-test("what is known after the act is given as a function", async () => {
+test("what is known only after the act is a function", async () => {
   const recorder = new Recorder("register", ["a", "b"]);
   const sent = await recorder.update("a", (it) => write(it.value, it.stamp), {
     act: () => ({ value: 3, stamp: [9, "a"], id: "m" }),
@@ -112,7 +112,7 @@ test("what is known after the act is given as a function", async () => {
   assert.equal((await recorder.close()).verdict, "yes");
 });
 
-test("an act that is awaited is one step with its report", async () => {
+test("an asynchronous act is one step with its report", async () => {
   const recorder = new Recorder("counter", ["a"]);
   let number = 0;
   const slow = async () => {
@@ -133,7 +133,7 @@ test("an act that fails is not reported", async () => {
   assert.equal((await recorder.close()).verdict, "yes");
 });
 
-test("a second arrival and one's own message are not reported", async () => {
+test("repeated deliveries and own messages are not reported", async () => {
   const recorder = new Recorder("counter", ["a", "b"]);
   await recorder.increment("a", { message: 1 });
   for (const replica of ["a", "b", "b"]) await recorder.deliver(replica, 1);
@@ -141,7 +141,7 @@ test("a second arrival and one's own message are not reported", async () => {
   assert.deepEqual(commands(recorder), ["a inc", "b got 0"]);
 });
 
-test("a merge is all that the other had seen at that moment", async () => {
+test("a merge delivers what the sender had seen at that moment", async () => {
   const recorder = new Recorder("counter", ["a", "b", "c"]);
   await recorder.increment("a");
   await recorder.merge("b", recorder.seen("a"));
@@ -153,7 +153,7 @@ test("a merge is all that the other had seen at that moment", async () => {
   assert.equal((await recorder.close()).verdict, "yes");
 });
 
-test("identifiers that the type does not tell", async () => {
+test("identifiers that the type does not expose", async () => {
   const recorder = new Recorder("orset", ["a", "b"]);
   await recorder.add("a", "milk", { message: 1 });
   await recorder.deliver("b", 1);
@@ -166,7 +166,7 @@ test("identifiers that the type does not tell", async () => {
   assert.ok(commands(recorder).includes("a remove 1 #1"));
 });
 
-test("identifiers that the type tells", async () => {
+test("identifiers that the type exposes", async () => {
   const recorder = new Recorder("orset", ["a"], { window: 1 });
   await recorder.add("a", "milk", { identifier: ["a", 1] });
   await recorder.add("a", "milk", { identifier: ["a", 2] });
@@ -180,7 +180,7 @@ test("many callers with a replica each", async () => {
   const counters = Object.fromEntries(names.map((name) => [name, 0]));
   const inboxes = Object.fromEntries(names.map((name) => [name, []]));
   const recorder = new Recorder("counter", names);
-  // The others can receive a message of `a` before its act has ended, unless that is one step with its report.
+  // Without steps, the others could receive a message of `a` before its act has ended and is reported.
   const increment = async (name, number) => {
     counters[name] += 1;
     for (const inbox of Object.values(inboxes)) inbox.push([name, number]);
@@ -203,23 +203,24 @@ test("many callers with a replica each", async () => {
   assert.deepEqual([report.verdict, report.refused], ["yes", 0]);
 });
 
-test("a message of no update cannot be told", async () => {
+test("a delivery of an unknown message is rejected", async () => {
   const recorder = new Recorder("counter", ["a"]);
-  await assert.rejects(recorder.deliver("a", 5), cannot(/no message 5/));
+  await assert.rejects(recorder.deliver("a", 5), isNotRepresentable(/unknown message 5/));
   await recorder.stop();
 });
 
-test("an operation of another kind cannot be told", async () => {
+test("an operation of another kind is rejected", async () => {
   const recorder = new Recorder("counter", ["a"]);
-  await assert.rejects(recorder.write("a", 5, 1), cannot(/write is no operation of the kind counter/));
+  const unknown = /write is not an operation of the kind counter: expected increment or decrement/;
+  await assert.rejects(recorder.write("a", 5, 1), isNotRepresentable(unknown));
   await recorder.stop();
 });
 
 test("a kind that does not exist is rejected", () => {
-  assert.throws(() => new Recorder("map", ["a"]), cannot(/there is no kind map, but counter, /));
+  assert.throws(() => new Recorder("map", ["a"]), isNotRepresentable(/unknown kind 'map': expected counter, /));
 });
 
-test("who joins has what its source had", async () => {
+test("a joining replica has the updates of its source", async () => {
   const recorder = new Recorder("counter", ["Ann", "bob"]);
   await recorder.increment("Ann", { message: 1 });
   await recorder.deliver("bob", 1);
@@ -243,7 +244,7 @@ test("who joins has what its source had", async () => {
   assert.match(recorder.history(), /^RAH 2 counter\nreplicas r0 bob\n/);
 });
 
-test("a good name stays where it is free", async () => {
+test("a valid name is kept if it is free", async () => {
   const recorder = new Recorder("counter", ["Ann"]);
   await recorder.join("carol", "Ann");
   await recorder.join("r0", "carol");
@@ -251,13 +252,13 @@ test("a good name stays where it is free", async () => {
   assert.deepEqual(commands(recorder), ["join carol r0", "join r1 carol"]);
 });
 
-test("who joins has a copy of the identifiers that its source had", async (t) => {
+test("a joining replica has a copy of the identifiers of its source", async (t) => {
   for (const element of ["milk", 7, ["a", "pair"]]) {
     await t.test(inspect(element), async () => {
       const recorder = new Recorder("orset", ["a"], { window: 1 });
       await recorder.add("a", element);
       await recorder.join("b", "a");
-      // What either of them adds or removes now is no concern of the other one.
+      // Later additions and removals of one of them do not change the other one.
       await recorder.add("a", element, { message: 2 });
       await recorder.remove("b", element, { message: 3 });
       await recorder.deliver("a", 3);
@@ -275,7 +276,7 @@ test("who joins has a copy of the identifiers that its source had", async (t) =>
   }
 });
 
-test("at one clock who joined is the latest", async () => {
+test("at equal clocks the replica that joined wins", async () => {
   const recorder = new Recorder("register", ["z"]);
   await recorder.join("a", "z");
   await recorder.write("a", 1, [1, "a"], { message: 1 });
@@ -285,7 +286,7 @@ test("at one clock who joined is the latest", async () => {
   assert.equal((await recorder.close()).verdict, "yes");
 });
 
-test("as many replicas as there can be, and no more", async () => {
+test("at most sixty-four replicas take part", async () => {
   const numbers = Array.from({ length: 65 }, (_, number) => number);
   const recorder = new Recorder("counter", numbers.slice(0, 63));
   await recorder.increment(0);
@@ -293,17 +294,17 @@ test("as many replicas as there can be, and no more", async () => {
   await recorder.read(63, 1);
   await recorder.read(62, 0);
   const act = () => assert.fail("the act was run");
-  await assert.rejects(recorder.join(64, 0, { act }), cannot(/64 cannot join: there are 64 replicas/));
+  await assert.rejects(recorder.join(64, 0, { act }), isNotRepresentable(/64 cannot join: the history has 64/));
   await recorder.read(63, 1);
   assert.equal((await recorder.close()).verdict, "yes");
-  assert.throws(() => new Recorder("counter", numbers), cannot(/1 to 64 replicas/));
+  assert.throws(() => new Recorder("counter", numbers), isNotRepresentable(/1 to 64 replicas/));
 });
 
-test("who cannot join is told before the act, and the history goes on", async () => {
+test("an impossible join is rejected before the act, and the history continues", async () => {
   const recorder = new Recorder("counter", ["a", "b"]);
   const act = () => assert.fail("the act was run");
-  for (const [replica, source, said] of [["a", "b", /a replica 'a' already/], ["c", "d", /no replica 'd'/]]) {
-    await assert.rejects(recorder.join(replica, source, { act }), cannot(said));
+  for (const [replica, source, message] of [["a", "b", /'a' cannot join/], ["c", "d", /unknown replica 'd'/]]) {
+    await assert.rejects(recorder.join(replica, source, { act }), isNotRepresentable(message));
   }
   await recorder.join("c", "b");
   await recorder.read("c", 0);
@@ -311,19 +312,19 @@ test("who cannot join is told before the act, and the history goes on", async ()
   assert.deepEqual(commands(recorder), ["join c b", "c read 0"]);
 });
 
-test("a no after a join is told in the user's words", async () => {
+test("a violation after a join is reported in the user's names", async () => {
   const recorder = new Recorder("counter", ["Ann", "Bob"], { window: 1 });
   await recorder.join("Carol", "Bob");
   await recorder.increment("Ann", { message: "up" });
   await recorder.deliver("Bob", "up");
   const failed = await recorder.read("Carol", 1).catch((fault) => fault);
   assert.ok(failed instanceof NotLinearizable);
-  assert.match(failed.message, /join r2 r1 +'Carol' joins with all that 'Bob' has\n/);
-  assert.ok(failed.message.includes("'Bob' gets message 'up', label 0 ('Ann' increments)"));
+  assert.match(failed.message, /join r2 r1 +'Carol' joins with a copy of 'Bob'\n/);
+  assert.ok(failed.message.includes("'Bob' receives message 'up', label 0 ('Ann' increments)"));
   await recorder.stop();
 });
 
-/** The failure of a history in which a read does not show what was added, with this window. */
+/** Returns the failure of a history in which a read lacks an element, with this window. */
 async function failed(window) {
   const recorder = new Recorder("lwwset", ["Ann", "Bob"], { window });
   const work = async () => {
@@ -339,20 +340,20 @@ async function failed(window) {
   return failure;
 }
 
-test("a no is told in the user's words with its file", async (t) => {
+test("a violation is reported in the user's names with its file", async (t) => {
   for (const window of [1, 2, 4096]) {
     await t.test(`window ${window}`, async () => {
       const { message, operation, cause, history } = await failed(window);
       assert.deepEqual([operation, cause], ["'Bob' reads []", "query"]);
       assert.ok(message.includes(`'Ann' adds 'milk' at clock ${NOW}`));
-      assert.ok(message.includes("'Bob' gets message 'm', label 0 ('Ann' adds 'milk'"));
+      assert.ok(message.includes("'Bob' receives message 'm', label 0 ('Ann' adds 'milk'"));
       const { status, replies } = checkText(find(), readFileSync(history));
       assert.deepEqual([status, replies.at(-1)], [1, "end no 1 query"]);
     });
   }
 });
 
-test("an arrival before its cause is refused", async () => {
+test("a delivery before its cause is refused", async () => {
   const recorder = new Recorder("counter", ["a", "b", "c"]);
   await recorder.increment("a", { message: 1 });
   await recorder.deliver("b", 1);
@@ -360,39 +361,40 @@ test("an arrival before its cause is refused", async () => {
   await recorder.deliver("c", 2);
   const failed = await recorder.settle().catch((fault) => fault);
   assert.ok(failed instanceof Refused && failed.cause === "not-causal 0");
-  const lacking = "its replica lacks message 1, label 0 ('a' increments), which the delivered one had seen";
+  const lacking = "refused, message 1, label 0 ('a' increments) has to be delivered first";
   assert.ok(failed.message.includes(lacking), failed.message);
   await recorder.stop();
 });
 
-test("a merge is told by the state that came", async () => {
+test("a merge is reported with its sender", async () => {
   const recorder = new Recorder("counter", ["Ann", "Bob"], { window: 1 });
   await recorder.increment("Ann", { message: "up" });
   await recorder.merge("Bob", recorder.seen("Ann"));
   await recorder.merge("Bob", recorder.seen("Ann"));
-  const told = /'Bob' merges the state of 'Ann'\n.* got 0 .*label 0.*\n +'Bob' merges the state of 'Ann'\n.* read 2/;
-  await assert.rejects(recorder.read("Bob", 2), told);
+  const merges = /'Bob' merges the state of 'Ann'\n.* got 0 .*label 0.*\n +'Bob' merges the state of 'Ann'\n.* read 2/;
+  await assert.rejects(recorder.read("Bob", 2), merges);
   await recorder.stop();
 });
 
-test("a no is told with what would have been right", needsExplanations, async () => {
+test("a violation is reported with the expected result", needsExplanations, async () => {
   const { message } = await failed(1);
-  assert.ok(message.includes("\nright is: 'Bob' reads ['milk']\n"), message);
-  const without = "it would be right without this: 'Bob' gets message 'm', label 0 ('Ann' adds 'milk'";
+  assert.ok(message.includes("\nexpected: 'Bob' reads ['milk']\n"), message);
+  const without = "explained if this had not been delivered: 'Bob' receives message 'm', label 0 ('Ann' adds 'milk'";
   assert.ok(message.includes(without), message);
 });
 
-test("a delivery that was not reported is told", needsExplanations, async () => {
+test("a missing delivery is suggested", needsExplanations, async () => {
   const recorder = new Recorder("counter", ["Ann", "Bob"], { window: 1 });
   await recorder.increment("Ann", { message: "up" });
   await recorder.increment("Bob");
   const { message } = await recorder.read("Bob", 2).catch((fault) => fault);
-  assert.ok(message.includes("\nright is: 'Bob' reads 1\n"), message);
-  assert.ok(message.includes("had its replica got message 'up', label 0 ('Ann' increments) before\n"), message);
+  assert.ok(message.includes("\nexpected: 'Bob' reads 1\n"), message);
+  const change = "\nexplained if message 'up', label 0 ('Ann' increments) had been delivered before\n";
+  assert.ok(message.includes(change), message);
   await recorder.stop();
 });
 
-test("a removal that names too few is told", async () => {
+test("a removal that names too few identifiers is explained", async () => {
   const recorder = new Recorder("orset", ["a"], { window: 1 });
   await recorder.add("a", "x", { identifier: 1 });
   await recorder.add("a", "x", { identifier: 2 });
@@ -411,14 +413,14 @@ test("the last sixteen lines are shown", async () => {
   }
 });
 
-test("what is not reported ends the history", async () => {
+test("an act that cannot be reported ends the history", async () => {
   const recorder = new Recorder("register", ["a"]);
   await assert.rejects(recorder.write("a", 1, "noon"), NotRepresentable);
   await assert.rejects(recorder.read("a", 1), NotRepresentable);
   await assert.rejects(recorder.close(), NotRepresentable);
 });
 
-test("a program that is no monitor", async () => {
+test("a program that is not a monitor is reported", async () => {
   const recorder = new Recorder("counter", ["a"], { program: "cat" });
   await recorder.increment("a");
   await assert.rejects(recorder.settle(), MonitorExited);

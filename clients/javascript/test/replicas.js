@@ -1,6 +1,6 @@
-// A small right replica of each kind. An update answers the message that other replicas receive.
+// A small correct replica of each kind. An update returns the message that the other replicas receive.
 
-/** A number that is counted up and down. */
+/** A counter: a number with increments and decrements. */
 export class Counter {
   number = 0;
 
@@ -26,7 +26,7 @@ export class Counter {
   }
 }
 
-/** What the kinds with clocks have in common. */
+/** The common part of the kinds with clocks. */
 class Clocked {
   clock = 0;
 
@@ -48,7 +48,7 @@ class Clocked {
   }
 }
 
-/** One value: the write with the later clock wins. */
+/** A register: the write with the later stamp wins. */
 export class Register extends Clocked {
   value = null;
   stamp = [0, ""];
@@ -73,7 +73,7 @@ export class Register extends Clocked {
   }
 }
 
-/** A set: of each element the update with the later clock counts. */
+/** An LWW set: for each element the update with the later stamp wins. */
 export class LwwSet extends Clocked {
   last = new Map();
 
@@ -106,7 +106,7 @@ export class LwwSet extends Clocked {
   }
 }
 
-/** A set: a removal takes out the additions that its replica had at that moment. */
+/** An OR-Set: a removal removes the additions that its replica has observed. */
 export class OrSet {
   added = 0;
   pairs = [];
@@ -143,7 +143,7 @@ export class OrSet {
   }
 }
 
-/** A list: of two elements put behind one, the one with the later clock stands first. */
+/** A list: of two elements behind the same anchor, the one with the later stamp comes first. */
 export class Rga extends Clocked {
   nodes = new Map([[null, { element: null, isShown: false, children: [] }]]);
 
@@ -183,13 +183,13 @@ export class Rga extends Clocked {
   }
 }
 
-/** The same, with replicas that join: each is a copy, under a name of its own. */
-export function forking(Right) {
-  return class Forking extends Right {
+/** Returns a subclass whose replicas fork: each fork is a copy under a new name. */
+export function forking(Base) {
+  return class Forking extends Base {
     async fork(name) {
       return Object.assign(new Forking(name), structuredClone({ ...this }), { name });
     }
   };
 }
 
-export const RIGHT = { counter: Counter, register: Register, lwwset: LwwSet, orset: OrSet, rga: Rga };
+export const CORRECT = { counter: Counter, register: Register, lwwset: LwwSet, orset: OrSet, rga: Rga };

@@ -1,17 +1,17 @@
-// What docs/REPORTING.md says of how to report, tried.
+// The advice of docs/REPORTING.md on how to report, as tests.
 import assert from "node:assert/strict";
 import { test } from "node:test";
 import { NotLinearizable, Recorder } from "../index.js";
 
-/** Reports what the work does, and requires that all of it is right. */
-async function right(kind, names, work) {
+/** Runs the work with a recorder, and requires that the monitor passes it. */
+async function passes(kind, names, work) {
   const recorder = new Recorder(kind, names);
   await work(recorder);
   assert.equal((await recorder.close()).verdict, "yes");
 }
 
-/** Reports what the work does, and requires that its last report is answered no for this cause. */
-async function wrong(kind, names, cause, work) {
+/** Runs the work with a recorder, and requires that the call that it returns is a violation for this cause. */
+async function fails(kind, names, cause, work) {
   const recorder = new Recorder(kind, names, { window: 1 });
   const last = await work(recorder);
   const failed = await last().catch((fault) => fault);
@@ -20,8 +20,8 @@ async function wrong(kind, names, cause, work) {
   await recorder.stop();
 }
 
-test("a state that travels takes what was seen with it", () =>
-  right("lwwset", ["ann", "bob", "carol"], async (recorder) => {
+test("a state in transit carries what its sender had seen", () =>
+  passes("lwwset", ["ann", "bob", "carol"], async (recorder) => {
     await recorder.add("ann", "milk", { stamp: 1 });
     const state = recorder.seen("ann");
     await recorder.remove("ann", "milk", { stamp: 2 });
@@ -32,7 +32,7 @@ test("a state that travels takes what was seen with it", () =>
   }));
 
 test("a tombstone is an anchor", () =>
-  right("rga", ["ann", "bob"], async (recorder) => {
+  passes("rga", ["ann", "bob"], async (recorder) => {
     await recorder.insertAfter("ann", null, "a", 1, { message: 1 });
     await recorder.deliver("bob", 1);
     await recorder.remove("ann", "a");
@@ -42,7 +42,7 @@ test("a tombstone is an anchor", () =>
   }));
 
 test("a move is a removal and a new element", () =>
-  right("rga", ["ann", "bob"], async (recorder) => {
+  passes("rga", ["ann", "bob"], async (recorder) => {
     await recorder.insertAfter("ann", null, ["a", 0], 1, { message: 1 });
     await recorder.insertAfter("ann", ["a", 0], ["b", 0], 2, { message: 2 });
     await recorder.remove("ann", ["a", 0], { message: 3 });
@@ -51,37 +51,37 @@ test("a move is a removal and a new element", () =>
     await recorder.read("bob", [["b", 0], ["a", 1]]);
   }));
 
-test("an element that was removed is not put in again", () =>
-  wrong("rga", ["ann"], "update", async (recorder) => {
+test("a removed element cannot be inserted again", () =>
+  fails("rga", ["ann"], "update", async (recorder) => {
     await recorder.insertAfter("ann", null, "a", 1);
     await recorder.remove("ann", "a");
     return () => recorder.insertAfter("ann", null, "a", 2);
   }));
 
-test("half a transaction is not found", () =>
-  right("lwwset", ["ann", "bob"], async (recorder) => {
+test("half a transaction is not detected", () =>
+  passes("lwwset", ["ann", "bob"], async (recorder) => {
     await recorder.add("ann", "x", { stamp: 1, message: 1 });
     await recorder.add("ann", "y", { stamp: 2, message: 2 });
     await recorder.deliver("bob", 1);
     await recorder.read("bob", ["x"]);
   }));
 
-test("a text is characters, each with what makes it unique", () =>
-  right("rga", ["ann"], async (recorder) => {
+test("a text is a list of unique characters", () =>
+  passes("rga", ["ann"], async (recorder) => {
     const word = [["b", 1], ["o", 2], ["o", 3]];
     for (const [at, letter] of word.entries()) await recorder.insertAfter("ann", word[at - 1] ?? null, letter, at + 1);
     await recorder.read("ann", word);
   }));
 
-test("a backup under the old name is answered no", () =>
-  wrong("register", ["ann"], "query", async (recorder) => {
+test("a backup under the old name is a violation", () =>
+  fails("register", ["ann"], "query", async (recorder) => {
     await recorder.write("ann", 1, 1);
     await recorder.write("ann", 2, 2);
     return () => recorder.read("ann", 1);
   }));
 
 test("a backup under a name of its own", () =>
-  right("register", ["ann", "bob", "ann again"], async (recorder) => {
+  passes("register", ["ann", "bob", "ann again"], async (recorder) => {
     await recorder.write("ann", 1, 1, { message: 1 });
     const backup = recorder.seen("ann");
     await recorder.write("ann", 2, 2, { message: 2 });
@@ -92,8 +92,8 @@ test("a backup under a name of its own", () =>
     await recorder.read("bob", 3);
   }));
 
-test("a participant that comes later joins", () =>
-  right("rga", ["ann", "bob"], async (recorder) => {
+test("a later participant joins", () =>
+  passes("rga", ["ann", "bob"], async (recorder) => {
     await recorder.insertAfter("ann", null, "a", 1, { message: 1 });
     await recorder.join("carol", "ann");
     await recorder.insertAfter("ann", "a", "b", 2, { message: 2 });
@@ -105,15 +105,15 @@ test("a participant that comes later joins", () =>
     await recorder.read("bob", ["a", "c", "b"]);
   }));
 
-test("a monitor that starts late is told what is there", () =>
-  right("counter", ["ann", "bob"], async (recorder) => {
+test("a monitor that starts late receives the existing state", () =>
+  passes("counter", ["ann", "bob"], async (recorder) => {
     for (const number of [0, 1, 2]) await recorder.increment("ann", { message: number });
     await recorder.merge("bob", [0, 1, 2]);
     await recorder.read("bob", 3);
   }));
 
-test("a read that is reported after the next delivery is answered no", () =>
-  wrong("counter", ["ann", "bob"], "query", async (recorder) => {
+test("a read that is reported after the next delivery is a violation", () =>
+  fails("counter", ["ann", "bob"], "query", async (recorder) => {
     await recorder.increment("ann", { message: 1 });
     const value = 0;
     await recorder.deliver("bob", 1);

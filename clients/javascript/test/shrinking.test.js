@@ -1,52 +1,52 @@
-// Shrinking: for each strategy a failed run that no other strategy makes smaller.
+// Shrinking: for each strategy a failed run that no other strategy shrinks.
 //
 // The runs are simulated: a run fails exactly where a condition on its steps holds. Each step has a letter of its own,
 // so a run is named by its letters.
 import assert from "node:assert/strict";
 import { test } from "node:test";
-import { shrunk } from "../src/shrinking.js";
+import { shrink } from "../src/shrinking.js";
 
 const NO = "no";
-const update = (letter, number, replica = 0) => ({ what: "update", replica, update: number, method: letter });
-const deliver = (letter, number, replica) => ({ what: "deliver", replica, update: number, method: letter });
-const merge = (letter, replica, source) => ({ what: "merge", replica, update: source, method: letter });
-const read = (letter, replica = 0) => ({ what: "read", replica, method: letter });
-/** An update for each letter, all at one replica. */
+const update = (letter, number, replica = 0) => ({ action: "update", replica, update: number, method: letter });
+const deliver = (letter, number, replica) => ({ action: "deliver", replica, update: number, method: letter });
+const merge = (letter, replica, source) => ({ action: "merge", replica, update: source, method: letter });
+const read = (letter, replica = 0) => ({ action: "read", replica, method: letter });
+/** Returns an update for each letter, all at one replica. */
 const updates = (letters) => [...letters].map((letter, number) => update(letter, number));
 const lettersOf = (steps) => steps.map((it) => it.method).join("");
 
-/** The steps that a real run takes: a replica gets each update once, and nothing from itself. */
-function possible(steps) {
-  const had = new Set();
-  return steps.filter(({ what, replica, update: number }) => {
-    if (what === "merge") return replica !== number;
-    if (what === "read") return true;
-    const isNew = !had.has(`${replica} ${number}`);
-    had.add(`${replica} ${number}`);
+/** Returns the steps that a real run executes: each update is delivered once, and never to its own replica. */
+function executable(steps) {
+  const delivered = new Set();
+  return steps.filter(({ action, replica, update: number }) => {
+    if (action === "merge") return replica !== number;
+    if (action === "read") return true;
+    const isNew = !delivered.has(`${replica} ${number}`);
+    delivered.add(`${replica} ${number}`);
     return isNew;
   });
 }
 
-/** The letters of the run that is left after shrinking, where a run of some steps fails for this cause. */
+/** Returns the letters of the shrunk run. `causeOf` returns the cause for which a run fails, or null. */
 async function smallest(steps, causeOf) {
-  const run = async (tried) => {
-    const taken = possible(tried);
-    const cause = causeOf(taken);
-    return cause === null ? null : { cause, steps: taken };
+  const run = async (candidate) => {
+    const executed = executable(candidate);
+    const cause = causeOf(executed);
+    return cause === null ? null : { cause, steps: executed };
   };
   const failure = await run(steps);
   assert.notEqual(failure, null, "the whole run does not fail");
-  return lettersOf((await shrunk(failure, run)).steps);
+  return lettersOf((await shrink(failure, run)).steps);
 }
 
-/** A run fails with all needed steps, and with all or none of each of these groups. */
+/** Returns a condition: a run fails if it has all needed steps, and all or none of each of these groups. */
 const failsWith = (needed, ...together) => (steps) => {
   const has = (it) => lettersOf(steps).includes(it);
   const isWhole = (group) => [...group].every(has) || ![...group].some(has);
   return [...needed].every(has) && together.every(isWhole) ? NO : null;
 };
 
-test("a replica goes with all that came from it", async () => {
+test("a replica is removed with all that it sent", async () => {
   const steps = [
     ...[update("a", 1), update("p", 2, 1), read("b"), deliver("q", 2, 0)],
     ...[read("c"), merge("r", 0, 1), read("d"), read("s", 1)],
@@ -55,10 +55,10 @@ test("a replica goes with all that came from it", async () => {
 });
 
 test("two replicas become one", async () => {
-  // A read fails where its replica has the update, and is one of these.
+  // A read fails if its replica has the update and is one of these.
   const causeOf = (replicas) => (steps) => {
-    const having = steps.filter((it) => it.what !== "read" && replicas.includes(it.replica)).map((it) => it.replica);
-    const readsIt = steps.some((it) => it.what === "read" && having.includes(it.replica));
+    const having = steps.filter((it) => it.action !== "read" && replicas.includes(it.replica)).map((it) => it.replica);
+    const readsIt = steps.some((it) => it.action === "read" && having.includes(it.replica));
     return readsIt && lettersOf(steps).includes("a") ? NO : null;
   };
   for (const copy of [deliver("b", 1, 1), merge("b", 1, 0)]) {
@@ -68,18 +68,18 @@ test("two replicas become one", async () => {
   }
 });
 
-test("a half, a quarter and a single step go", async () => {
+test("a half, a quarter and a single step are removed", async () => {
   assert.equal(await smallest(updates("abcdefgh"), failsWith("abcd", "efgh")), "abcd");
   assert.equal(await smallest(updates("abcdefghijklmnop"), failsWith("abcdefghmnop", "ijkl")), "abcdefghmnop");
   assert.equal(await smallest([update("a", 1), read("b"), read("c")], failsWith("ac")), "ac");
 });
 
-test("an update goes with its deliveries", async () => {
+test("an update is removed with its deliveries", async () => {
   const steps = [update("p", 1), read("a"), deliver("q", 1, 1), read("b", 1), deliver("r", 1, 2), read("c", 2)];
   assert.equal(await smallest(steps, failsWith("abc", "pqr")), "abc");
 });
 
-test("two steps go together", async () => {
+test("two steps are removed together", async () => {
   assert.equal(await smallest(updates("paq"), failsWith("a", "pq")), "a");
   assert.equal(await smallest(updates("parbqs"), failsWith("ab", "pq", "rs")), "ab");
 });
@@ -92,14 +92,14 @@ test("two steps of sixteen are tried, and of seventeen not", async () => {
 
 test("the strategies are tried again after a later one succeeded", async () => {
   const causeOf = (steps) => {
-    // The half at the end can go only after two others went.
+    // The half at the end can be removed only after two others.
     const letters = lettersOf(steps);
     return letters.includes("w") || !letters.includes("p") ? failsWith("abcd", "pq", "wxyz")(steps) : null;
   };
   assert.equal(await smallest(updates("paqbcdwxyz"), causeOf), "abcd");
 });
 
-test("a run that fails for another cause is not taken", async () => {
+test("a run that fails for another cause is not accepted", async () => {
   const causeOf = (steps) => (lettersOf(steps).includes("b") ? NO : "refused stamp-taken");
   assert.equal(await smallest(updates("abc"), causeOf), "b");
 });

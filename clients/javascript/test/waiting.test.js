@@ -1,6 +1,6 @@
-// No call takes longer than the program takes to answer.
+// No call waits longer than the program takes to reply.
 //
-// A call is timed in turns with a plain run of the same program, so that a busy machine slows both.
+// A call is timed alternately with a plain run of the same program, so that a busy machine slows both.
 import assert from "node:assert/strict";
 import { spawnSync } from "node:child_process";
 import { mkdtempSync, rmSync, writeFileSync } from "node:fs";
@@ -8,16 +8,16 @@ import { tmpdir } from "node:os";
 import { join } from "node:path";
 import { test } from "node:test";
 import { Monitor, MonitorExited } from "../index.js";
-import { checkText, findForMany } from "../src/program.js";
+import { checkText, findForManyRuns } from "../src/program.js";
 
 const ROUNDS = 5;
-// A client's run takes about what a plain run does; one that sleeps for two seconds takes some hundred times as long.
+// A client's run takes about as long as a plain run; one that sleeps for two seconds, some hundred times.
 const MOST_TIMES = 100;
-// How long an answer is looked for, at most, in milliseconds.
-const PATIENCE = 10_000;
+// The longest time to wait for a reply, in milliseconds.
+const TIMEOUT = 10_000;
 const TEXT = "RAH 2 counter\nreplicas a\na read 1\n";
 
-/** What this takes, in milliseconds. */
+/** Returns the duration of this call in milliseconds. */
 async function milliseconds(act) {
   const before = performance.now();
   await act();
@@ -33,13 +33,13 @@ async function takesAsLong(act, plain) {
     plainRuns.push(await milliseconds(plain));
   }
   const [fastest, fastestPlain] = [runs, plainRuns].map((it) => Math.min(...it));
-  const said = `${fastest} milliseconds of the client, and ${fastestPlain} of a plain run`;
-  assert.ok(fastest < MOST_TIMES * fastestPlain, said);
+  const message = `${fastest} milliseconds of the client, and ${fastestPlain} of a plain run`;
+  assert.ok(fastest < MOST_TIMES * fastestPlain, message);
 }
 
 /** Compares a monitor's whole life with the program's run on one command. */
 function takesAsLongAsACheck(use) {
-  const program = findForMany();
+  const program = findForManyRuns();
   const act = async () => {
     const monitor = new Monitor("counter", ["a"], { program });
     try {
@@ -51,12 +51,12 @@ function takesAsLongAsACheck(use) {
   return takesAsLong(act, () => checkText(program, TEXT));
 }
 
-test("a line that no other one follows is written soon", () =>
+test("a line that no other line follows is written soon", () =>
   takesAsLongAsACheck(async (monitor) => {
     monitor.post("a read 1", "ok 0");
-    const last = performance.now() + PATIENCE;
+    const last = performance.now() + TIMEOUT;
     while (monitor.unexpected === null) {
-      assert.ok(performance.now() < last, "there is no answer");
+      assert.ok(performance.now() < last, "there is no reply");
       await new Promise((resolve) => setImmediate(resolve));
     }
   }));
@@ -75,7 +75,7 @@ test("closing waits for the report alone", () =>
     assert.equal((await monitor.close()).labels, 1);
   }));
 
-test("a program that is gone is reported at once", async () => {
+test("a program that exited is reported immediately", async () => {
   const folder = mkdtempSync(join(tmpdir(), "yehatu_"));
   const program = join(folder, "program");
   writeFileSync(program, "#!/bin/sh\necho out of luck >&2\nexit 7\n", { mode: 0o755 });

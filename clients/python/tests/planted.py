@@ -1,13 +1,13 @@
-"""Ten bugs, planted in the right replicas of each kind in which they make sense."""
+"""Ten seeded bugs, in the correct replicas of each kind to which they apply."""
 from typing import Any, Callable, Dict, Tuple
 
-from replicas import RIGHT, LwwSet, Message, OrSet, Rga
+from replicas import CORRECT, LwwSet, Message, OrSet, Rga
 
 
-def loses_a_delivery(right: Callable[[str], Any]) -> Any:
-    """Each third message that arrives is not applied."""
+def loses_a_delivery(base: Callable[[str], Any]) -> Any:
+    """Drops each third message that is delivered."""
 
-    class Bug(right):  # type: ignore[misc, valid-type]
+    class Bug(base):  # type: ignore[misc, valid-type]
         def __init__(self, name: str) -> None:
             super().__init__(name)
             self.received = 0
@@ -22,10 +22,10 @@ def loses_a_delivery(right: Callable[[str], Any]) -> Any:
     return Bug
 
 
-def applies_twice(right: Callable[[str], Any]) -> Any:
-    """Each third message that arrives is applied once more."""
+def applies_twice(base: Callable[[str], Any]) -> Any:
+    """Applies each third message that is delivered twice."""
 
-    class Bug(right):  # type: ignore[misc, valid-type]
+    class Bug(base):  # type: ignore[misc, valid-type]
         def __init__(self, name: str) -> None:
             super().__init__(name)
             self.received = 0
@@ -39,20 +39,20 @@ def applies_twice(right: Callable[[str], Any]) -> Any:
     return Bug
 
 
-def breaks_ties_by_arrival(right: Callable[[str], Any]) -> Any:
-    """At one clock what arrives later counts as later."""
+def breaks_ties_by_arrival(base: Callable[[str], Any]) -> Any:
+    """Lets the later delivery win at equal clocks."""
 
-    class Bug(right):  # type: ignore[misc, valid-type]
+    class Bug(base):  # type: ignore[misc, valid-type]
         def is_later(self, stamp: Tuple[int, str], than: Tuple[int, str]) -> bool:
             return bool(stamp[0] > than[0] if isinstance(self, Rga) else stamp[0] >= than[0])
 
     return Bug
 
 
-def reads_stale(right: Callable[[str], Any]) -> Any:
-    """A read answers what the one before would have answered, where something arrived in between."""
+def reads_stale(base: Callable[[str], Any]) -> Any:
+    """Returns the result before the last delivery, in the first read after it."""
 
-    class Bug(right):  # type: ignore[misc, valid-type]
+    class Bug(base):  # type: ignore[misc, valid-type]
         stale: Any = None
 
         def receive(self, message: Message) -> None:
@@ -66,10 +66,10 @@ def reads_stale(right: Callable[[str], Any]) -> Any:
     return Bug
 
 
-def does_not_raise_its_clock(right: Callable[[str], Any]) -> Any:
-    """The clock counts its own updates alone."""
+def does_not_raise_its_clock(base: Callable[[str], Any]) -> Any:
+    """Counts only its own updates in its clock."""
 
-    class Bug(right):  # type: ignore[misc, valid-type]
+    class Bug(base):  # type: ignore[misc, valid-type]
         def raise_clock(self, stamp: Tuple[int, str]) -> None:
             pass
 
@@ -77,7 +77,7 @@ def does_not_raise_its_clock(right: Callable[[str], Any]) -> Any:
 
 
 class LwwSetTakesUnseen(LwwSet):
-    """A removal that arrives counts, whatever its clock."""
+    """Applies each removal, whatever its clock."""
 
     def apply(self, message: Message) -> None:
         super().apply(message)
@@ -86,7 +86,7 @@ class LwwSetTakesUnseen(LwwSet):
 
 
 class OrSetTakesUnseen(OrSet):
-    """A removal takes the element out, under whatever identifiers it is there."""
+    """Removes all identifiers of the element, also those that the removal has not observed."""
 
     def apply(self, message: Message) -> None:
         super().apply(message)
@@ -95,7 +95,7 @@ class OrSetTakesUnseen(OrSet):
 
 
 class RgaTakesUnseen(Rga):
-    """A removal takes out of sight what stands behind the element too."""
+    """Hides the children of a removed element too."""
 
     def hide(self, message: Message) -> None:
         super().hide(message)
@@ -104,7 +104,7 @@ class RgaTakesUnseen(Rga):
 
 
 class LwwSetShowsAgain(LwwSet):
-    """An addition that arrives counts, whatever its clock."""
+    """Applies each addition, whatever its clock."""
 
     def apply(self, message: Message) -> None:
         super().apply(message)
@@ -113,7 +113,7 @@ class LwwSetShowsAgain(LwwSet):
 
 
 class OrSetShowsAgain(OrSet):
-    """A removal that arrives takes out the first of its identifiers alone."""
+    """Removes only the first identifier of a removal that is delivered."""
 
     def receive(self, message: Message) -> None:
         first = {**message, "identifiers": message["identifiers"][:1]} if "identifiers" in message else message
@@ -121,7 +121,7 @@ class OrSetShowsAgain(OrSet):
 
 
 class RgaShowsAgain(Rga):
-    """What is put behind a removed element shows that again."""
+    """Shows a removed element again when another one is inserted behind it."""
 
     def insert(self, message: Message) -> None:
         super().insert(message)
@@ -130,7 +130,7 @@ class RgaShowsAgain(Rga):
 
 
 class LwwSetForgetsAbsent(LwwSet):
-    """A removal of an element that is not there is forgotten."""
+    """Ignores the removal of an absent element."""
 
     def apply(self, message: Message) -> None:
         if message["is_in"] or message["element"] in self.last:
@@ -138,7 +138,7 @@ class LwwSetForgetsAbsent(LwwSet):
 
 
 class OrSetForgetsAbsent(OrSet):
-    """A removal of an element that is not there is forgotten."""
+    """Ignores the removal of an absent element."""
 
     def apply(self, message: Message) -> None:
         if "identifier" in message or message["element"] in self.read():
@@ -146,14 +146,14 @@ class OrSetForgetsAbsent(OrSet):
 
 
 class RgaRises(Rga):
-    """Of two elements behind one, that with the earlier clock stands first."""
+    """Puts the child with the earlier clock first."""
 
     def is_later(self, stamp: Tuple[int, str], than: Tuple[int, str]) -> bool:
         return stamp < than
 
 
 class RgaLosesBehindTombstone(Rga):
-    """What is put behind a removed element is lost."""
+    """Loses an element that is inserted behind a removed one."""
 
     def insert(self, message: Message) -> None:
         super().insert(message)
@@ -162,14 +162,14 @@ class RgaLosesBehindTombstone(Rga):
             self.nodes[message["element"]].is_shown = False
 
 
-def all_of(plant: Callable[[Callable[[str], Any]], Any], *kinds: str) -> Dict[str, Any]:
-    """The bug in the right replicas of these kinds."""
-    return {kind: plant(RIGHT[kind]) for kind in kinds}
+def all_of(add_bug: Callable[[Callable[[str], Any]], Any], *kinds: str) -> Dict[str, Any]:
+    """Returns the bug in the correct replicas of these kinds."""
+    return {kind: add_bug(CORRECT[kind]) for kind in kinds}
 
 
 # The bugs that a history can show.
-SEEN: Dict[str, Dict[str, Any]] = {
-    "a delivery is lost": all_of(loses_a_delivery, *RIGHT),
+OBSERVABLE: Dict[str, Dict[str, Any]] = {
+    "a delivery is lost": all_of(loses_a_delivery, *CORRECT),
     "a delivery is applied twice": all_of(applies_twice, "counter"),
     "ties are broken by arrival": all_of(breaks_ties_by_arrival, "register", "lwwset", "rga"),
     "a removal takes what it has not seen": {
@@ -182,14 +182,14 @@ SEEN: Dict[str, Dict[str, Any]] = {
         "orset": OrSetShowsAgain,
         "rga": RgaShowsAgain,
     },
-    "a read is stale": all_of(reads_stale, *RIGHT),
+    "a read is stale": all_of(reads_stale, *CORRECT),
     "a clock is not raised on delivery": all_of(does_not_raise_its_clock, "register", "lwwset", "rga"),
     "a removal of an absent element is forgotten": {"lwwset": LwwSetForgetsAbsent},
     "children stand in rising order": {"rga": RgaRises},
     "an insertion behind a tombstone is lost": {"rga": RgaLosesBehindTombstone},
 }
-# Those that change nothing that a replica answers.
-NEVER_SEEN: Dict[str, Dict[str, Any]] = {
+# The bugs that change no result of a replica.
+UNOBSERVABLE: Dict[str, Dict[str, Any]] = {
     "a delivery is applied twice": all_of(applies_twice, "register", "lwwset", "orset"),
     "a removal of an absent element is forgotten": {"orset": OrSetForgetsAbsent},
 }

@@ -1,6 +1,6 @@
-"""A small right replica of each kind, and planted bugs: each bug is a class that does one thing wrongly.
+"""A small correct replica of each kind.
 
-An update answers the message that other replicas receive: a dictionary with what the monitor asks for.
+An update returns the message that the other replicas receive: a dictionary with the fields that the client reads.
 """
 import copy
 from typing import Any, Callable, Dict, List, Tuple
@@ -9,7 +9,7 @@ Message = Dict[str, Any]
 
 
 class Counter:
-    """A number that is counted up and down."""
+    """A counter: a number with increments and decrements."""
 
     def __init__(self, name: str) -> None:
         self.number = 0
@@ -32,7 +32,7 @@ class Counter:
 
 
 class Clocked:
-    """What the kinds with clocks have in common."""
+    """The common part of the kinds with clocks."""
 
     def __init__(self, name: str) -> None:
         self.name, self.clock = name, 0
@@ -49,7 +49,7 @@ class Clocked:
 
 
 class Register(Clocked):
-    """One value: the write with the later clock wins."""
+    """A register: the write with the later stamp wins."""
 
     def __init__(self, name: str) -> None:
         super().__init__(name)
@@ -74,7 +74,7 @@ class Register(Clocked):
 
 
 class LwwSet(Clocked):
-    """A set: of each element the update with the later clock counts."""
+    """An LWW set: for each element the update with the later stamp wins."""
 
     def __init__(self, name: str) -> None:
         super().__init__(name)
@@ -105,7 +105,7 @@ class LwwSet(Clocked):
 
 
 class OrSet:
-    """A set: a removal takes out the additions that its replica had at that moment."""
+    """An OR-Set: a removal removes the additions that its replica has observed."""
 
     def __init__(self, name: str) -> None:
         self.name, self.added = name, 0
@@ -136,7 +136,7 @@ class OrSet:
 
 
 class Node:
-    """An element of a list, with those that were put behind it."""
+    """An element of a list, with those that were inserted behind it."""
 
     def __init__(self, element: Any, stamp: Tuple[int, str], is_shown: bool = True) -> None:
         self.element, self.stamp, self.is_shown = element, stamp, is_shown
@@ -144,7 +144,7 @@ class Node:
 
 
 class Rga(Clocked):
-    """A list: of two elements put behind one, the one with the later clock stands first."""
+    """A list: of two elements behind the same anchor, the one with the later stamp comes first."""
 
     def __init__(self, name: str) -> None:
         super().__init__(name)
@@ -192,19 +192,19 @@ class Rga(Clocked):
             self.walk(child, shown)
 
 
-def forking(right: Callable[[str], Any]) -> Any:
-    """The same, with replicas that join: each is a copy, under a name of its own."""
+def forking(base: Callable[[str], Any]) -> Any:
+    """Returns a subclass whose replicas fork: each fork is a copy under a new name."""
 
-    class Forking(right):  # type: ignore[misc, valid-type]
+    class Forking(base):  # type: ignore[misc, valid-type]
         def fork(self, name: str) -> Any:
-            made = copy.deepcopy(self)
-            made.name = name
-            return made
+            forked = copy.deepcopy(self)
+            forked.name = name
+            return forked
 
     return Forking
 
 
-RIGHT: Dict[str, Callable[[str], Any]] = {
+CORRECT: Dict[str, Callable[[str], Any]] = {
     "counter": Counter,
     "register": Register,
     "lwwset": LwwSet,

@@ -1,4 +1,4 @@
-"""The program behind a pipe: replies, windows, threads, and programs that are gone."""
+"""The program behind a pipe: replies, windows, threads, and programs that exit."""
 import os
 import shutil
 import stat
@@ -14,7 +14,7 @@ from yehatu import Monitor, MonitorExited, Report
 
 
 def script(folder: str, *lines: str) -> str:
-    """A program of these lines."""
+    """Returns the path of a shell script with these lines."""
     path = Path(folder) / "program"
     path.write_text("\n".join(["#!/bin/sh", *lines, ""]))
     path.chmod(path.stat().st_mode | stat.S_IXUSR)
@@ -30,7 +30,7 @@ class Replies(unittest.TestCase):
             self.assertEqual(monitor.verdict(), "yes 1")
         self.assertEqual(monitor.close(), Report("counter", "yes", 1, 4, 1))
 
-    def test_a_line_may_have_its_end_and_is_one(self) -> None:
+    def test_a_command_is_one_line_with_or_without_its_end(self) -> None:
         monitor = Monitor("counter", ["a"])
         self.assertEqual(monitor.tell("a inc\n"), "ok 0")
         for two in ("a inc\na inc", "a inc\n\n"):
@@ -39,7 +39,7 @@ class Replies(unittest.TestCase):
         self.assertEqual(monitor.tell("a inc"), "ok 1")
         self.assertEqual(monitor.close().labels, 2)
 
-    def test_a_no_is_told_in_the_report(self) -> None:
+    def test_the_report_has_the_violation(self) -> None:
         monitor = Monitor("counter", ["a"])
         self.assertEqual(monitor.tell("a read 1"), "no 0 query")
         self.assertEqual(monitor.close(), Report("counter", "no", 1, 1, 0, 0, "query", True))
@@ -52,7 +52,7 @@ class Replies(unittest.TestCase):
         self.assertIsNone(monitor.unexpected)
         self.assertEqual(monitor.close().labels, 1001)
 
-    def test_the_first_other_reply_is_kept(self) -> None:
+    def test_the_first_unexpected_reply_is_recorded(self) -> None:
         monitor = Monitor("counter", ["a"])
         for number, read in enumerate((0, 5, 6)):
             monitor.post(f"a read {read}", f"ok {number}")
@@ -61,7 +61,7 @@ class Replies(unittest.TestCase):
         self.assertEqual(monitor.history(2), "RAH 2 counter\nreplicas a\na read 0\na read 5\n")
         monitor.close()
 
-    def test_what_waits_for_company_is_written_all_the_same(self) -> None:
+    def test_a_partial_batch_is_written(self) -> None:
         monitor = Monitor("counter", ["a"])
         monitor.post("a read 1", "ok 0")
         for _ in range(1000):
@@ -87,33 +87,33 @@ class Replies(unittest.TestCase):
         self.assertEqual(monitor.close().verdict, "yes")
 
 
-class Gone(unittest.TestCase):
+class Exits(unittest.TestCase):
     def setUp(self) -> None:
         self.folder = tempfile.TemporaryDirectory()
         self.addCleanup(self.folder.cleanup)
 
-    def test_there_is_no_program(self) -> None:
-        with self.assertRaisesRegex(MonitorExited, "nowhere/program is no program"):
+    def test_a_missing_program_is_reported(self) -> None:
+        with self.assertRaisesRegex(MonitorExited, "nowhere/program is not a program"):
             Monitor("counter", ["a"], program="/nowhere/program")
 
-    def test_it_ends_at_once_and_says_why(self) -> None:
+    def test_a_program_that_exits_immediately_is_reported(self) -> None:
         monitor = Monitor("counter", ["a"], program=script(self.folder.name, "echo out of luck >&2", "exit 7"))
-        with self.assertRaisesRegex(MonitorExited, "status 7, and said 'out of luck'"):
+        with self.assertRaisesRegex(MonitorExited, "status 7; its standard error is 'out of luck'"):
             monitor.tell("a inc")
         with self.assertRaisesRegex(MonitorExited, "out of luck"):
             monitor.close()
 
-    def test_it_ends_while_lines_are_in_flight(self) -> None:
+    def test_a_program_that_exits_with_lines_in_flight_is_reported(self) -> None:
         program = script(self.folder.name, "read a; read b; read c; echo ok 0; echo tired >&2; exit 2")
         monitor = Monitor("counter", ["a"], program=program)
-        with self.assertRaisesRegex(MonitorExited, "status 2, and said 'tired'"):
+        with self.assertRaisesRegex(MonitorExited, "status 2; its standard error is 'tired'"):
             for number in range(100_000):
                 monitor.post("a inc", f"ok {number}")
             monitor.settle()
 
     def test_as_many_commands_as_the_window_are_in_flight(self) -> None:
         for window, least in ((0, 1), (1, 1), (3, 3)):
-            # It answers the first command once there are as many as the window.
+            # It replies to the first command once the window is full.
             reads = "read line; " * (2 + least)
             program = script(self.folder.name, f"{reads}echo other; exec cat >&2")
             seen = []
@@ -126,35 +126,37 @@ class Gone(unittest.TestCase):
 
             with self.subTest(window=window):
                 monitor = Monitor("counter", ["a"], program=program, window=window)
-                # A call that waits too soon waits for ever.
+                # A call that waits too early never returns.
                 thread = threading.Thread(target=work, args=(monitor, least), daemon=True)
                 thread.start()
                 thread.join(20)
                 monitor.stop()
                 self.assertEqual(seen, [*[None] * least, (0, "other")])
 
-    def test_the_end_of_what_a_program_says_is_kept(self) -> None:
+    def test_the_end_of_standard_error_is_kept(self) -> None:
         monitor = Monitor("counter", ["a"], program=script(self.folder.name, "seq 100000 105000 >&2; exit 7"))
         with self.assertRaises(MonitorExited) as caught:
             monitor.tell("a inc")
         # The last 50 lines.
-        kept = "\\n".join(map(str, range(104951, 105001)))
-        self.assertTrue(str(caught.exception).endswith(f"status 7, and said '{kept}'"), caught.exception)
+        last_lines = "\\n".join(map(str, range(104951, 105001)))
+        message = str(caught.exception)
+        self.assertTrue(message.endswith(f"status 7; its standard error is '{last_lines}'"), message)
 
-    def test_a_fault_of_the_text_is_told(self) -> None:
+    def test_a_syntax_fault_is_reported(self) -> None:
         monitor = Monitor("counter", ["a"])
         with self.assertRaisesRegex(MonitorExited, "line 3: syntax"):
             monitor.tell("a increments")
 
-    def test_a_fault_of_the_text_is_explained(self) -> None:
+    def test_a_syntax_fault_is_explained(self) -> None:
         explains = "if [ $1 = explain ]; then cat; echo is no command; exit 2; fi"
         for fault in ("syntax", "truncated", "too long", "full"):
             lines = (explains, f"read one; read two; read three; echo line 3: {fault} >&2; exit 2")
             monitor = Monitor("counter", ["a"], program=script(self.folder.name, *lines))
             with self.assertRaises(MonitorExited) as caught:
                 monitor.tell("a increments")
-            said, _, page = str(caught.exception).partition("\n\n")
-            self.assertTrue(said.endswith(f"ended with status 2, and said 'line 3: {fault}'"), said)
+            description, _, page = str(caught.exception).partition("\n\n")
+            expected = f"exited with status 2; its standard error is 'line 3: {fault}'"
+            self.assertTrue(description.endswith(expected), description)
             self.assertEqual(page, "RAH 2 counter\nreplicas a\na increments\nis no command")
 
     def test_the_former_names_of_exceptions(self) -> None:
@@ -164,35 +166,35 @@ class Gone(unittest.TestCase):
         with self.assertRaises(AttributeError):
             getattr(yehatu, "MonitorWent")
 
-    def test_a_stopped_monitor_takes_nothing_more(self) -> None:
+    def test_a_stopped_monitor_rejects_commands(self) -> None:
         monitor = Monitor("counter", ["a"])
         monitor.stop()
         with self.assertRaises(MonitorExited):
             monitor.tell("a inc")
 
-    def test_a_closed_monitor_takes_nothing_more(self) -> None:
+    def test_a_closed_monitor_rejects_commands(self) -> None:
         monitor = Monitor("counter", ["a"])
         monitor.close()
         with self.assertRaisesRegex(MonitorExited, "was closed"):
             monitor.post("a inc", "ok 0")
 
-    def test_all_callers_that_wait_are_told(self) -> None:
+    def test_each_waiting_caller_gets_the_error(self) -> None:
         program = script(self.folder.name, "read a; read b; read c; sleep 0.1; exit 2")
         monitor = Monitor("counter", ["a"], program=program)
-        told = []
+        errors = []
 
         def work() -> None:
             try:
                 monitor.tell("a inc")
-            except MonitorExited as gone:
-                told.append(gone)
+            except MonitorExited as error:
+                errors.append(error)
 
         threads = [threading.Thread(target=work) for _ in range(4)]
         for thread in threads:
             thread.start()
         for thread in threads:
             thread.join(20)
-        self.assertEqual(len(told), 4)
+        self.assertEqual(len(errors), 4)
 
     def test_a_monitor_that_is_left_open_does_not_keep_the_process_from_ending(self) -> None:
         code = """
@@ -220,13 +222,13 @@ monitor.settle()
             if before is not None:
                 os.environ["RA_MONITOR"] = before
 
-    def test_the_repository_has_a_program_of_its_own(self) -> None:
+    def test_the_default_program_is_that_of_the_repository(self) -> None:
         top = Path(self.folder.name) / "repository"
         own = shutil.copytree(Path(yehatu.__file__).parent, top / "clients" / "python" / "yehatu").parent
         built = top / "crates" / "ra_check_cli" / "out" / "ra_check_cli"
         built.parent.mkdir(parents=True)
         built.symlink_to(Path(yehatu.program.find()).resolve())
-        # It says so each time that it is started.
+        # It prints a line at each start.
         os.rename(script(self.folder.name, "echo started >&2", f'exec "{built}" "$@"'), top / "ra_monitor")
         code = """
 from yehatu import Monitor, check_random
@@ -239,7 +241,7 @@ class Counter:
 print(Monitor("counter", ["a"]).close().verdict, check_random(lambda name: Counter(), "counter", seeds=5))
 """
         environment = {it: value for it, value in os.environ.items() if it != "RA_MONITOR"}
-        # In a folder where no other client is, since what is there is imported first.
+        # The current folder is imported first, so it must have no other client.
         ran = subprocess.run(
             [sys.executable, "-c", code], cwd=self.folder.name, env={**environment, "PYTHONPATH": str(own)},
             capture_output=True, text=True,

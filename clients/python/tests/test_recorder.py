@@ -11,7 +11,7 @@ NOW = 1_764_076_489_000  # A clock of milliseconds since 1970.
 
 
 def lines(recorder: Recorder) -> str:
-    """The commands that were reported."""
+    """Returns the commands that were reported."""
     return recorder.history().split("\n", 2)[2]
 
 
@@ -26,7 +26,7 @@ class Names(unittest.TestCase):
             "RAH 2 register\nreplicas r0 r1 r2\nr0 write 1 @1\nr1 got 0\nr1 read 1\nr2 read none\n"
         ))
 
-    def test_good_names_stay(self) -> None:
+    def test_valid_names_are_kept(self) -> None:
         with Recorder("counter", ["r1", "Bob", "ann", "verdict"]) as recorder:
             pass
         self.assertIn("replicas r1 r0 ann r2\n", recorder.history())
@@ -50,26 +50,26 @@ class Names(unittest.TestCase):
             recorder.read("a", {"z", "x"})
         self.assertIn("a read 1,3\n", recorder.history())
 
-    def test_what_is_no_key_cannot_be_told(self) -> None:
+    def test_a_value_that_is_not_hashable_is_rejected(self) -> None:
         with self.assertRaises(NotRepresentable), Recorder("register", ["a"]) as recorder:
-            with self.assertRaisesRegex(NotRepresentable, "no key of a dictionary"):
+            with self.assertRaisesRegex(NotRepresentable, "as a value: expected .* a key of a dictionary"):
                 recorder.write("a", ["a", "list"], 1)
-            with self.assertRaisesRegex(NotRepresentable, "no key of a dictionary"):
+            with self.assertRaisesRegex(NotRepresentable, "as a value: expected .* a key of a dictionary"):
                 recorder.read("a", None)
 
-    def test_what_nothing_written_reads_as_can_be_named(self) -> None:
+    def test_the_value_of_an_unwritten_register_can_be_chosen(self) -> None:
         with Recorder("register", ["a"], nothing=0) as recorder:
             recorder.read("a", 0)
             recorder.write("a", None, 1)
             recorder.read("a", None)
         recorder = Recorder("register", ["a"])
-        with self.assertRaisesRegex(NotRepresentable, "name another `nothing`"):
+        with self.assertRaisesRegex(NotRepresentable, "pass another `nothing`"):
             recorder.write("a", None, 1)
         recorder.stop()
 
 
 class Clocks(unittest.TestCase):
-    def test_great_clocks_are_counted_from_the_first_one(self) -> None:
+    def test_large_clocks_are_counted_from_the_first_one(self) -> None:
         with Recorder("register", ["a", "b"]) as recorder:
             recorder.write("a", 1, (NOW, "a"), message=1)
             recorder.write("b", 2, (NOW - 5, "b"), message=2)
@@ -77,33 +77,33 @@ class Clocks(unittest.TestCase):
             recorder.read("b", 1)
         self.assertIn("write 1 @268435456\n", recorder.history())
 
-    def test_a_read_that_lists_nothing_says_so(self) -> None:
+    def test_a_read_that_returns_no_list_is_rejected(self) -> None:
         for kind in ("lwwset", "orset", "rga"):
             recorder = Recorder(kind, ["a", "b"])
-            with self.subTest(kind=kind), self.assertRaisesRegex(NotRepresentable, "a read of None lists nothing"):
+            with self.subTest(kind=kind), self.assertRaisesRegex(NotRepresentable, "returned None: expected a list"):
                 recorder.read("a", None)
             recorder.stop()
 
-    def test_clocks_that_cannot_be_told_say_so(self) -> None:
-        for clocks, said in [
+    def test_clocks_that_cannot_be_represented_are_rejected(self) -> None:
+        for clocks, message in [
             ([NOW, NOW - (1 << 28)], "too early"),
             ([NOW, NOW + (1 << 32)], "too late"),
             ([1, 1 << 32], "too late"),
             ([0], "too early"),
-            ([1.5], "no whole number"),
-            ([True], "no whole number"),
-            ([(1, "b")], "of another replica than 'a'"),
-            ([None], "there is no stamp"),
+            ([1.5], "not a whole number"),
+            ([True], "not a whole number"),
+            ([(1, "b")], "names another replica: expected 'a'"),
+            ([None], "the stamp is missing"),
         ]:
             recorder = Recorder("register", ["a", "b"])
-            with self.subTest(said=said), self.assertRaisesRegex(NotRepresentable, said):
+            with self.subTest(message=message), self.assertRaisesRegex(NotRepresentable, message):
                 for number, clock in enumerate(clocks):
                     recorder.write("a", number, clock)
             recorder.stop()
 
 
 class Steps(unittest.TestCase):
-    def test_what_is_known_after_the_act_is_given_as_a_function(self) -> None:
+    def test_what_is_known_only_after_the_act_is_a_function(self) -> None:
         with Recorder("register", ["a", "b"]) as recorder:
             sent = recorder.update(
                 "a",
@@ -121,27 +121,27 @@ class Steps(unittest.TestCase):
                 recorder.increment("a", act=lambda: 1 // 0)
             recorder.read("a", 0)
 
-    def test_a_second_arrival_and_ones_own_message_are_not_reported(self) -> None:
+    def test_repeated_deliveries_and_own_messages_are_not_reported(self) -> None:
         with Recorder("counter", ["a", "b"]) as recorder:
             recorder.increment("a", message=1)
             for replica in ("a", "b", "b"):
                 recorder.deliver(replica, 1)
         self.assertEqual(lines(recorder), "a inc\nb got 0\n")
 
-    def test_a_message_of_no_update_cannot_be_told(self) -> None:
-        with self.assertRaisesRegex(NotRepresentable, "no message 5"), Recorder("counter", ["a"]) as recorder:
+    def test_a_delivery_of_an_unknown_message_is_rejected(self) -> None:
+        with self.assertRaisesRegex(NotRepresentable, "unknown message 5"), Recorder("counter", ["a"]) as recorder:
             recorder.deliver("a", 5)
 
-    def test_an_operation_of_another_kind_cannot_be_told(self) -> None:
-        said = "write is no operation of the kind counter"
-        with self.assertRaisesRegex(NotRepresentable, said), Recorder("counter", ["a"]) as recorder:
+    def test_an_operation_of_another_kind_is_rejected(self) -> None:
+        message = "write is not an operation of the kind counter: expected increment or decrement"
+        with self.assertRaisesRegex(NotRepresentable, message), Recorder("counter", ["a"]) as recorder:
             recorder.write("a", 5, 1)
 
     def test_a_kind_that_does_not_exist_is_rejected(self) -> None:
-        with self.assertRaisesRegex(NotRepresentable, "there is no kind 'map', but counter, "):
+        with self.assertRaisesRegex(NotRepresentable, "unknown kind 'map': expected counter, "):
             Recorder("map", ["a"])
 
-    def test_a_merge_is_all_that_the_other_had_seen_at_that_moment(self) -> None:
+    def test_a_merge_delivers_what_the_sender_had_seen_at_that_moment(self) -> None:
         with Recorder("counter", ["a", "b", "c"]) as recorder:
             recorder.increment("a")
             recorder.merge("b", recorder.seen("a"))
@@ -151,7 +151,7 @@ class Steps(unittest.TestCase):
             recorder.merge("c", state)
             recorder.read("c", 0)
 
-    def test_identifiers_that_the_type_does_not_tell(self) -> None:
+    def test_identifiers_that_the_type_does_not_expose(self) -> None:
         with Recorder("orset", ["a", "b"]) as recorder:
             recorder.add("a", "milk", message=1)
             recorder.deliver("b", 1)
@@ -163,7 +163,7 @@ class Steps(unittest.TestCase):
             recorder.read("b", ["milk"])
         self.assertIn("a remove 1 #1\n", recorder.history())
 
-    def test_identifiers_that_the_type_tells(self) -> None:
+    def test_identifiers_that_the_type_exposes(self) -> None:
         recorder = Recorder("orset", ["a"], window=1)
         recorder.add("a", "milk", identifier=("a", 1))
         recorder.add("a", "milk", identifier=("a", 2))
@@ -199,7 +199,7 @@ class Steps(unittest.TestCase):
 
 
 class Joins(unittest.TestCase):
-    def test_who_joins_has_what_its_source_had(self) -> None:
+    def test_a_joining_replica_has_the_updates_of_its_source(self) -> None:
         with Recorder("counter", ["Ann", "bob"]) as recorder:
             recorder.increment("Ann", message=1)
             recorder.deliver("bob", 1)
@@ -221,18 +221,18 @@ class Joins(unittest.TestCase):
             "join r2 r0\nr2 read 3\nr1 got 1\nr1 read 3\n"
         ))
 
-    def test_a_good_name_stays_where_it_is_free(self) -> None:
+    def test_a_valid_name_is_kept_if_it_is_free(self) -> None:
         with Recorder("counter", ["Ann"]) as recorder:
             recorder.join("carol", "Ann")
             recorder.join("r0", "carol")
         self.assertEqual(lines(recorder), "join carol r0\njoin r1 carol\n")
 
-    def test_who_joins_has_a_copy_of_the_identifiers_that_its_source_had(self) -> None:
+    def test_a_joining_replica_has_a_copy_of_the_identifiers_of_its_source(self) -> None:
         for element in ("milk", 7, ("a", "pair")):
             with self.subTest(element=element), Recorder("orset", ["a"], window=1) as recorder:
                 recorder.add("a", element)
                 recorder.join("b", "a")
-                # What either of them adds or removes now is no concern of the other one.
+                # Later additions and removals of one of them do not change the other one.
                 recorder.add("a", element, message=2)
                 recorder.remove("b", element, message=3)
                 recorder.deliver("a", 3)
@@ -246,7 +246,7 @@ class Joins(unittest.TestCase):
                 removals = re.findall("[abc] remove.*", recorder.history())
                 self.assertEqual(removals, ["b remove 1 #1", "a remove 1 #2", "c remove 1 #2"])
 
-    def test_at_one_clock_who_joined_is_the_latest(self) -> None:
+    def test_at_equal_clocks_the_replica_that_joined_wins(self) -> None:
         with Recorder("register", ["z"]) as recorder:
             recorder.join("a", "z")
             recorder.write("a", 1, (1, "a"), message=1)
@@ -254,7 +254,7 @@ class Joins(unittest.TestCase):
             recorder.deliver("z", 1)
             recorder.read("z", 1)
 
-    def test_as_many_replicas_as_there_can_be_and_no_more(self) -> None:
+    def test_at_most_sixty_four_replicas_take_part(self) -> None:
         with Recorder("counter", range(63)) as recorder:
             recorder.increment(0, message=1)
             recorder.join(63, 0)
@@ -263,20 +263,20 @@ class Joins(unittest.TestCase):
         with self.assertRaisesRegex(NotRepresentable, "1 to 64 replicas"):
             Recorder("counter", range(65))
         with Recorder("counter", range(64)) as recorder:
-            with self.assertRaisesRegex(NotRepresentable, "64 cannot join: there are 64 replicas"):
+            with self.assertRaisesRegex(NotRepresentable, "64 cannot join: the history has 64 replicas"):
                 recorder.join(64, 0, act=self.fail)
             recorder.read(63, 0)
 
-    def test_who_cannot_join_is_told_before_the_act_and_the_history_goes_on(self) -> None:
+    def test_an_impossible_join_is_rejected_before_the_act_and_the_history_continues(self) -> None:
         with Recorder("counter", ["a", "b"]) as recorder:
-            for new, source, said in [("a", "b", "a replica 'a' already"), ("c", "d", "no replica 'd'")]:
-                with self.subTest(said=said), self.assertRaisesRegex(NotRepresentable, said):
+            for new, source, message in [("a", "b", "'a' cannot join"), ("c", "d", "unknown replica 'd'")]:
+                with self.subTest(message=message), self.assertRaisesRegex(NotRepresentable, message):
                     recorder.join(new, source, act=self.fail)
             recorder.join("c", "b")
             recorder.read("c", 0)
         self.assertEqual(lines(recorder), "join c b\nc read 0\n")
 
-    def test_a_no_after_a_join_is_told_in_the_users_words(self) -> None:
+    def test_a_violation_after_a_join_is_reported_in_the_users_names(self) -> None:
         recorder = Recorder("counter", ["Ann", "Bob"], window=1)
         recorder.join("Carol", "Bob")
         recorder.increment("Ann", message="up")
@@ -284,8 +284,8 @@ class Joins(unittest.TestCase):
         with self.assertRaises(NotLinearizable) as caught:
             recorder.read("Carol", 1)
         self.assertEqual(caught.exception.operation, "'Carol' reads 1")
-        self.assertRegex(str(caught.exception), r"join r2 r1 +'Carol' joins with all that 'Bob' has\n")
-        self.assertIn("'Bob' gets message 'up', label 0 ('Ann' increments)", str(caught.exception))
+        self.assertRegex(str(caught.exception), r"join r2 r1 +'Carol' joins with a copy of 'Bob'\n")
+        self.assertIn("'Bob' receives message 'up', label 0 ('Ann' increments)", str(caught.exception))
         recorder.stop()
 
 
@@ -303,35 +303,37 @@ class Failures(unittest.TestCase):
             recorder.close()
         return caught.exception
 
-    def test_a_no_is_told_in_the_users_words_with_its_file(self) -> None:
+    def test_a_violation_is_reported_in_the_users_names_with_its_file(self) -> None:
         for window in (1, 2, 4096):
             with self.subTest(window=window):
                 failed = self.failed(window)
                 self.assertEqual((failed.operation, failed.cause), ("'Bob' reads []", "query"))
                 self.assertIn(f"'Ann' adds 'milk' at clock {NOW}", str(failed))
-                self.assertIn("'Bob' gets message 'm', label 0 ('Ann' adds 'milk'", str(failed))
+                self.assertIn("'Bob' receives message 'm', label 0 ('Ann' adds 'milk'", str(failed))
                 with open(failed.history or "") as text:
                     again = subprocess.run([program.find(), "check"], stdin=text, stdout=subprocess.PIPE)
                 self.assertEqual((again.returncode, again.stdout[-13:]), (1, b"end no 1 query\n"[-13:]))
 
-    @unittest.skipUnless(program.EXPLAINS.is_file(), "./ra_monitor explain is not built")
-    def test_a_no_is_told_with_what_would_have_been_right(self) -> None:
+    @unittest.skipUnless(program.EXPLAIN_PROGRAM.is_file(), "./ra_monitor explain is not built")
+    def test_a_violation_is_reported_with_the_expected_result(self) -> None:
         failed = str(self.failed(1))
-        self.assertIn("\nright is: 'Bob' reads ['milk']\n", failed)
-        self.assertIn("it would be right without this: 'Bob' gets message 'm', label 0 ('Ann' adds 'milk'", failed)
+        self.assertIn("\nexpected: 'Bob' reads ['milk']\n", failed)
+        without = "explained if this had not been delivered: 'Bob' receives message 'm', label 0 ('Ann' adds 'milk'"
+        self.assertIn(without, failed)
 
-    @unittest.skipUnless(program.EXPLAINS.is_file(), "./ra_monitor explain is not built")
-    def test_a_delivery_that_was_not_reported_is_told(self) -> None:
+    @unittest.skipUnless(program.EXPLAIN_PROGRAM.is_file(), "./ra_monitor explain is not built")
+    def test_a_missing_delivery_is_suggested(self) -> None:
         recorder = Recorder("counter", ["Ann", "Bob"], window=1)
         recorder.increment("Ann", message="up")
         recorder.increment("Bob")
         with self.assertRaises(NotLinearizable) as caught:
             recorder.read("Bob", 2)
-        self.assertIn("\nright is: 'Bob' reads 1\n", str(caught.exception))
-        self.assertIn("had its replica got message 'up', label 0 ('Ann' increments) before\n", str(caught.exception))
+        self.assertIn("\nexpected: 'Bob' reads 1\n", str(caught.exception))
+        explained = "\nexplained if message 'up', label 0 ('Ann' increments) had been delivered before\n"
+        self.assertIn(explained, str(caught.exception))
         recorder.stop()
 
-    def test_an_arrival_before_its_cause_is_refused(self) -> None:
+    def test_a_delivery_before_its_cause_is_refused(self) -> None:
         recorder = Recorder("counter", ["a", "b", "c"])
         recorder.increment("a", message=1)
         recorder.deliver("b", 1)
@@ -340,7 +342,7 @@ class Failures(unittest.TestCase):
             recorder.deliver("c", 2)
             recorder.settle()
         self.assertEqual(caught.exception.cause, "not-causal 0")
-        lacking = "its replica lacks message 1, label 0 ('a' increments), which the delivered one had seen"
+        lacking = "refused, message 1, label 0 ('a' increments) has to be delivered first"
         self.assertIn(lacking, str(caught.exception))
         recorder.stop()
 
@@ -356,7 +358,7 @@ class Failures(unittest.TestCase):
                 self.assertEqual([it.split("  ")[2] for it in shown], [*["a inc"] * min(before, 15), "a read 0"])
             recorder.stop()
 
-    def test_what_is_not_reported_ends_the_history(self) -> None:
+    def test_an_act_that_cannot_be_reported_ends_the_history(self) -> None:
         recorder = Recorder("register", ["a"])
         with self.assertRaises(NotRepresentable):
             recorder.write("a", 1, "noon", act=lambda: None)
@@ -365,7 +367,7 @@ class Failures(unittest.TestCase):
         with self.assertRaises(NotRepresentable):
             recorder.close()
 
-    def test_a_merge_is_told_by_the_state_that_came(self) -> None:
+    def test_a_merge_is_reported_with_its_sender(self) -> None:
         recorder = Recorder("counter", ["Ann", "Bob"], window=1)
         recorder.increment("Ann", message="up")
         recorder.merge("Bob", recorder.seen("Ann"))
@@ -373,11 +375,11 @@ class Failures(unittest.TestCase):
         with self.assertRaises(NotLinearizable) as caught:
             recorder.read("Bob", 2)
         merges = "'Bob' merges the state of 'Ann'"
-        got = "r1 got 0   'Bob' gets message 'up', label 0 ('Ann' increments)"
+        got = "r1 got 0   'Bob' receives message 'up', label 0 ('Ann' increments)"
         self.assertRegex(str(caught.exception), f"(?s){merges}.*{re.escape(got)}.*{merges}.*'Bob' reads 2")
         recorder.stop()
 
-    def test_a_removal_that_names_too_few_is_told(self) -> None:
+    def test_a_removal_that_names_too_few_identifiers_is_explained(self) -> None:
         recorder = Recorder("orset", ["a"], window=1)
         recorder.add("a", "x", identifier=1)
         recorder.add("a", "x", identifier=2)
@@ -385,14 +387,14 @@ class Failures(unittest.TestCase):
             recorder.remove("a", "x", identifiers=[2])
         recorder.stop()
 
-    def test_a_program_that_is_no_monitor(self) -> None:
+    def test_a_program_that_is_not_a_monitor_is_reported(self) -> None:
         recorder = Recorder("counter", ["a"], program="cat")
         with self.assertRaises(MonitorExited):
             recorder.increment("a")
             recorder.settle()
         recorder.stop()
 
-    def test_an_exception_in_the_block_is_what_is_told(self) -> None:
+    def test_an_exception_in_the_block_is_raised_unchanged(self) -> None:
         with self.assertRaises(KeyError):
             with Recorder("counter", ["a"]) as recorder:
                 recorder.increment("a")

@@ -1,11 +1,11 @@
-"""What docs/REPORTING.md says of how to report, tried."""
+"""The advice of docs/REPORTING.md on how to report, as tests."""
 import unittest
 
 from yehatu import NotLinearizable, Recorder
 
 
 class Reporting(unittest.TestCase):
-    def test_a_state_that_travels_takes_what_was_seen_with_it(self) -> None:
+    def test_a_state_in_transit_carries_what_its_sender_had_seen(self) -> None:
         with Recorder("lwwset", ["ann", "bob", "carol"]) as recorder:
             recorder.add("ann", "milk", 1)
             state = recorder.seen("ann")
@@ -34,7 +34,7 @@ class Reporting(unittest.TestCase):
             recorder.merge("bob", [1, 2, 3, 4])
             recorder.read("bob", [("b", 0), ("a", 1)])
 
-    def test_an_element_that_was_removed_is_not_put_in_again(self) -> None:
+    def test_a_removed_element_cannot_be_inserted_again(self) -> None:
         recorder = Recorder("rga", ["ann"], window=1)
         recorder.insert_after("ann", None, "a", 1)
         recorder.remove("ann", "a")
@@ -43,7 +43,7 @@ class Reporting(unittest.TestCase):
         self.assertEqual(caught.exception.cause, "update")
         recorder.stop()
 
-    def test_half_a_transaction_is_not_found(self) -> None:
+    def test_half_a_transaction_is_not_detected(self) -> None:
         with Recorder("lwwset", ["ann", "bob"]) as recorder:
             with recorder.step():
                 recorder.add("ann", "x", 1, message=1)
@@ -51,14 +51,14 @@ class Reporting(unittest.TestCase):
             recorder.deliver("bob", 1)
             recorder.read("bob", ["x"])
 
-    def test_a_text_is_characters_each_with_what_makes_it_unique(self) -> None:
+    def test_a_text_is_a_list_of_unique_characters(self) -> None:
         with Recorder("rga", ["ann"]) as recorder:
             word = [("b", 1), ("o", 2), ("o", 3)]
             for clock, (anchor, letter) in enumerate(zip([None, *word], word), 1):
                 recorder.insert_after("ann", anchor, letter, clock)
             recorder.read("ann", word)
 
-    def test_a_backup_under_the_old_name_is_answered_no(self) -> None:
+    def test_a_backup_under_the_old_name_is_a_violation(self) -> None:
         recorder = Recorder("register", ["ann"], window=1)
         recorder.write("ann", 1, 1)
         recorder.write("ann", 2, 2)
@@ -78,7 +78,7 @@ class Reporting(unittest.TestCase):
             recorder.merge("bob", [1, 3])
             recorder.read("bob", 3)
 
-    def test_a_participant_that_comes_later_joins(self) -> None:
+    def test_a_later_participant_joins(self) -> None:
         with Recorder("rga", ["ann", "bob"]) as recorder:
             recorder.insert_after("ann", None, "a", 1, message=1)
             recorder.join("carol", "ann")
@@ -90,14 +90,14 @@ class Reporting(unittest.TestCase):
             recorder.merge("bob", [1, 2, 3])
             recorder.read("bob", ["a", "c", "b"])
 
-    def test_a_monitor_that_starts_late_is_told_what_is_there(self) -> None:
+    def test_a_monitor_that_starts_late_receives_the_existing_state(self) -> None:
         with Recorder("counter", ["ann", "bob"]) as recorder:
             for number in range(3):
                 recorder.increment("ann", message=number)
             recorder.merge("bob", range(3))
             recorder.read("bob", 3)
 
-    def test_a_read_that_is_reported_after_the_next_delivery_is_answered_no(self) -> None:
+    def test_a_read_that_is_reported_after_the_next_delivery_is_a_violation(self) -> None:
         recorder = Recorder("counter", ["ann", "bob"], window=1)
         recorder.increment("ann", message=1)
         value = 0

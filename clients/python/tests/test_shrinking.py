@@ -1,4 +1,4 @@
-"""Shrinking: for each strategy a failed run that no other strategy makes smaller.
+"""Shrinking: for each strategy a failed run that no other strategy shrinks.
 
 The runs are simulated: a run fails exactly where a condition on its steps holds. Each step has a letter of its own,
 so a run is named by its letters.
@@ -8,80 +8,81 @@ from typing import Callable, List, Optional, Sequence, Set, Tuple
 
 from yehatu.plans import Step
 from yehatu.runs import Failure
-from yehatu.shrinking import shrunk
+from yehatu.shrinking import shrink
 
 Steps = Sequence[Step]
 NO = ("no",)
 
 
 def update(letter: str, number: int, replica: int = 0) -> Step:
-    """The update of this number at this replica."""
+    """Returns the update of this number at this replica."""
     return Step("update", replica, number, letter)
 
 
 def deliver(letter: str, number: int, replica: int) -> Step:
-    """The delivery of the update of this number to this replica."""
+    """Returns the delivery of the update of this number to this replica."""
     return Step("deliver", replica, number, letter)
 
 
 def merge(letter: str, replica: int, source: int) -> Step:
-    """The merge of the source's state into this replica."""
+    """Returns the merge of the source's state into this replica."""
     return Step("merge", replica, source, letter)
 
 
 def read(letter: str, replica: int = 0) -> Step:
-    """A read at this replica."""
+    """Returns a read at this replica."""
     return Step("read", replica, 0, letter)
 
 
 def updates(letters: str) -> List[Step]:
-    """An update for each letter, all at one replica."""
+    """Returns an update for each letter, all at one replica."""
     return [update(letter, number) for number, letter in enumerate(letters)]
 
 
 def letters_of(steps: Steps) -> str:
-    """The letters of these steps."""
+    """Returns the letters of these steps."""
     return "".join(it.method for it in steps)
 
 
-def possible(steps: Steps) -> List[Step]:
-    """The steps that a real run takes: a replica gets each update once, and nothing from itself."""
-    taken: List[Step] = []
-    had: Set[Tuple[int, int]] = set()
+def executable(steps: Steps) -> List[Step]:
+    """Returns the steps that a real run executes: each update is delivered once, and never to its own replica."""
+    executed: List[Step] = []
+    delivered: Set[Tuple[int, int]] = set()
     for step in steps:
-        is_new = step.what not in ("update", "deliver") or (step.replica, step.update) not in had
-        if is_new and not (step.what == "merge" and step.replica == step.update):
-            taken.append(step)
-            had.add((step.replica, step.update))
-    return taken
+        is_new = step.action not in ("update", "deliver") or (step.replica, step.update) not in delivered
+        if is_new and not (step.action == "merge" and step.replica == step.update):
+            executed.append(step)
+            delivered.add((step.replica, step.update))
+    return executed
 
 
 def smallest(steps: Steps, cause_of: Callable[[Steps], Optional[Tuple[str, ...]]]) -> str:
-    """The letters of the run that is left after shrinking, where a run of some steps fails for this cause."""
+    """Returns the letters of the shrunk run. `cause_of` returns the cause for which a run fails, or None."""
 
-    def run(tried: Steps) -> Optional[Failure]:
-        taken = possible(tried)
-        cause = cause_of(taken)
-        return None if cause is None else Failure(cause, taken, None, "", [])  # type: ignore[arg-type]
+    def run(candidate: Steps) -> Optional[Failure]:
+        executed = executable(candidate)
+        cause = cause_of(executed)
+        return None if cause is None else Failure(cause, executed, None, "", [])  # type: ignore[arg-type]
 
     failure = run(steps)
     if failure is None:
         raise AssertionError("the whole run does not fail")
-    return letters_of(shrunk(failure, run).steps)
+    return letters_of(shrink(failure, run).steps)
 
 
 def fails_with(needed: str, *together: str) -> Callable[[Steps], Optional[Tuple[str, ...]]]:
-    """A run fails with all needed steps, and with all or none of each of these groups."""
+    """Returns a condition: a run fails if it has all needed steps, and all or none of each of these groups."""
 
     def cause_of(steps: Steps) -> Optional[Tuple[str, ...]]:
-        there = set(letters_of(steps))
-        return NO if there >= set(needed) and all(set(it) <= there or not set(it) & there for it in together) else None
+        letters = set(letters_of(steps))
+        has_all_or_none = all(set(it) <= letters or not set(it) & letters for it in together)
+        return NO if letters >= set(needed) and has_all_or_none else None
 
     return cause_of
 
 
 class Strategies(unittest.TestCase):
-    def test_a_replica_goes_with_all_that_came_from_it(self) -> None:
+    def test_a_replica_is_removed_with_all_that_it_sent(self) -> None:
         steps = [
             update("a", 1), update("p", 2, 1), read("b"), deliver("q", 2, 0), read("c"), merge("r", 0, 1), read("d"),
             read("s", 1),
@@ -91,28 +92,28 @@ class Strategies(unittest.TestCase):
     def test_two_replicas_become_one(self) -> None:
         def smallest_where_reads_fail(replicas: Set[int], copy: Step) -> str:
             def cause_of(steps: Steps) -> Optional[Tuple[str, ...]]:
-                # A read fails where its replica has the update, and is one of these.
-                has_update = {it.replica for it in steps if it.what != "read"} & replicas
-                reads_it = any(it.what == "read" and it.replica in has_update for it in steps)
+                # A read fails if its replica has the update and is one of these.
+                has_update = {it.replica for it in steps if it.action != "read"} & replicas
+                reads_it = any(it.action == "read" and it.replica in has_update for it in steps)
                 return NO if reads_it and "a" in letters_of(steps) else None
 
             return smallest([update("a", 1), copy, read("c", 1)], cause_of)
 
         for copy in (deliver("b", 1, 1), merge("b", 1, 0)):
             for replicas in ({0, 1}, {1}):
-                with self.subTest(copy=copy.what, replicas=replicas):
+                with self.subTest(copy=copy.action, replicas=replicas):
                     self.assertEqual(smallest_where_reads_fail(replicas, copy), "ac")
 
-    def test_a_half_a_quarter_and_a_single_step_go(self) -> None:
+    def test_a_half_a_quarter_and_a_single_step_are_removed(self) -> None:
         self.assertEqual(smallest(updates("abcdefgh"), fails_with("abcd", "efgh")), "abcd")
         self.assertEqual(smallest(updates("abcdefghijklmnop"), fails_with("abcdefghmnop", "ijkl")), "abcdefghmnop")
         self.assertEqual(smallest([update("a", 1), read("b"), read("c")], fails_with("ac")), "ac")
 
-    def test_an_update_goes_with_its_deliveries(self) -> None:
+    def test_an_update_is_removed_with_its_deliveries(self) -> None:
         steps = [update("p", 1), read("a"), deliver("q", 1, 1), read("b", 1), deliver("r", 1, 2), read("c", 2)]
         self.assertEqual(smallest(steps, fails_with("abc", "pqr")), "abc")
 
-    def test_two_steps_go_together(self) -> None:
+    def test_two_steps_are_removed_together(self) -> None:
         self.assertEqual(smallest(updates("paq"), fails_with("a", "pq")), "a")
         self.assertEqual(smallest(updates("parbqs"), fails_with("ab", "pq", "rs")), "ab")
 
@@ -123,13 +124,13 @@ class Strategies(unittest.TestCase):
 
     def test_the_strategies_are_tried_again_after_a_later_one_succeeded(self) -> None:
         def cause_of(steps: Steps) -> Optional[Tuple[str, ...]]:
-            # The half at the end can go only after two others went.
-            there = set(letters_of(steps))
-            return fails_with("abcd", "pq", "wxyz")(steps) if "w" in there or "p" not in there else None
+            # The half at the end can be removed only after two others.
+            letters = set(letters_of(steps))
+            return fails_with("abcd", "pq", "wxyz")(steps) if "w" in letters or "p" not in letters else None
 
         self.assertEqual(smallest(updates("paqbcdwxyz"), cause_of), "abcd")
 
-    def test_a_run_that_fails_for_another_cause_is_not_taken(self) -> None:
+    def test_a_run_that_fails_for_another_cause_is_not_accepted(self) -> None:
         def cause_of(steps: Steps) -> Tuple[str, ...]:
             return NO if "b" in letters_of(steps) else ("refused", "stamp-taken")
 

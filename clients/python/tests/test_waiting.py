@@ -1,6 +1,6 @@
-"""No call takes longer than the program takes to answer.
+"""No call waits longer than the program takes to reply.
 
-A call is timed in turns with a plain run of the same program, so that a busy machine slows both.
+A call is timed alternately with a plain run of the same program, so that a busy machine slows both.
 """
 import os
 import stat
@@ -14,15 +14,15 @@ from typing import Callable
 from yehatu import Monitor, MonitorExited, program
 
 ROUNDS = 5
-# A client's run takes 2 to 5 times what a plain run does; one that sleeps for two seconds takes some hundred times.
+# A client's run takes 2 to 5 times as long as a plain run; one that sleeps for two seconds, some hundred times.
 MOST_TIMES = 100
-# How often an answer is looked for, at most: 10 seconds.
-LOOKS = 20_000
+# The largest number of polls for a reply, which take 10 seconds.
+POLLS = 20_000
 TEXT = b"RAH 2 counter\nreplicas a\na read 1\n"
 
 
 def seconds(act: Callable[[], object]) -> float:
-    """What this takes."""
+    """Returns the duration of this call."""
     before = time.perf_counter()
     act()
     return time.perf_counter() - before
@@ -37,7 +37,7 @@ class Waiting(unittest.TestCase):
 
     def takes_as_long_as_a_check(self, use: Callable[[Monitor], object]) -> None:
         """Compares a monitor's whole life with the program's run on one command."""
-        found = program.find_for_many()
+        found = program.find_for_many_runs()
 
         def act() -> None:
             monitor = Monitor("counter", ["a"], program=found)
@@ -48,14 +48,14 @@ class Waiting(unittest.TestCase):
 
         self.takes_as_long(act, lambda: program.check_text(found, TEXT))
 
-    def test_a_line_that_no_other_one_follows_is_written_soon(self) -> None:
+    def test_a_line_that_no_other_line_follows_is_written_soon(self) -> None:
         def use(monitor: Monitor) -> None:
             monitor.post("a read 1", "ok 0")
-            for _ in range(LOOKS):
+            for _ in range(POLLS):
                 if monitor.unexpected is not None:
                     return
                 time.sleep(0.0005)
-            self.fail("there is no answer")
+            self.fail("there is no reply")
 
         self.takes_as_long_as_a_check(use)
 
@@ -76,7 +76,7 @@ class Waiting(unittest.TestCase):
 
         self.takes_as_long_as_a_check(use)
 
-    def test_a_program_that_is_gone_is_reported_at_once(self) -> None:
+    def test_a_program_that_exited_is_reported_immediately(self) -> None:
         with tempfile.TemporaryDirectory() as folder:
             path = Path(folder) / "program"
             path.write_text("#!/bin/sh\necho out of luck >&2\nexit 7\n")

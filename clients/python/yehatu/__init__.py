@@ -1,7 +1,7 @@
-"""Reports what replicas of a data type do to the monitor, and tries replicas of one's own at random.
+"""A client of the monitor of RA-linearizability, which reports what the replicas of a CRDT do.
 
-`Monitor` is the program behind a pipe, `Recorder` speaks to it in the user's own names, and `check_random` drives a
-replicated data type through random runs and shrinks the first one that is answered no.
+`Monitor` runs the program behind a pipe. `Recorder` reports to it in the user's own names. `check_random` tests a
+replicated data type in random runs, and shrinks the first run that has a violation.
 """
 import warnings as _warnings
 from typing import Any as _Any
@@ -31,7 +31,7 @@ __all__ = [
     "write",
 ]
 
-# The names that exceptions had in the version before; they go with the next one.
+# The names that exceptions had in the previous version. The next version removes them.
 _FORMER_NAMES = {"CannotTell": NotRepresentable, "MonitorGone": MonitorExited}
 
 

@@ -1,45 +1,45 @@
-"""What can go wrong, as one exception for each cause."""
+"""The exceptions of the client, one for each cause."""
 from typing import Optional
 
 
 class MonitorExited(RuntimeError):
-    """The program could not be started, or ended before its input did. The message has what it said."""
+    """The program could not be started, or exited before its input ended. The message has its standard error."""
 
 
 class NotRepresentable(ValueError):
-    """The text of a history has no words for this: the message says which, and what to do instead."""
+    """The text format cannot represent a value. The message names the value and what to do instead."""
 
 
 class ReportFailed(AssertionError):
-    """A report that was not answered as right. An assertion, so that test frameworks count it as a failed test."""
+    """A report that the program did not accept. An assertion, so that test frameworks count it as a failed test."""
 
     def __init__(self, message: str, operation: str, reply: str, history: Optional[str]) -> None:
         super().__init__(message)
         self.operation = operation
-        """What the replica did, in the user's words."""
+        """A description of what the replica did, in the user's names."""
         self.reply = reply
-        """What the program answered."""
+        """The program's reply."""
         self.history = history
-        """The file with the history up to this report, to be checked again by `ra_monitor check`."""
+        """The file with the history up to this report, which `ra_monitor check` reads."""
 
 
 class NotLinearizable(ReportFailed):
-    """The program answered no: `cause` is `order`, `update` or `query`."""
+    """The program found a violation."""
 
     @property
     def cause(self) -> str:
-        """Which condition fails."""
+        """The condition that fails: `order`, `update` or `query`."""
         return self.reply.split()[-1]
 
 
 class Refused(ReportFailed):
-    """The program refused a report, which says mostly that something was reported wrongly: `cause` says what."""
+    """The program rejected a report. The likely cause is that something was reported wrongly."""
 
     @property
     def cause(self) -> str:
-        """Why it was refused."""
+        """The reason of the rejection, such as `not-causal 0`."""
         return self.reply.split(" ", 1)[1]
 
 
 class ReplicaRaised(ReportFailed):
-    """A replica of a random run raised an exception, which is this one's `__cause__`."""
+    """A replica of a random run raised an exception, which is the `__cause__` of this one."""

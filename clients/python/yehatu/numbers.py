@@ -1,126 +1,130 @@
-"""Numbers of the text for what the user names, and back."""
+"""The numbers and names that represent the user's values in the text format."""
 from typing import Any, Dict, Hashable, Iterator, List, Optional, Sequence, Set
 
 from .errors import NotRepresentable
 
-# The greatest number of the text.
-GREATEST = 4_294_967_295
-# A first clock above that is counted as this one, so that clocks a little before it can still be told.
-FIRST_GREAT_CLOCK = 1 << 28
-MOST_REPLICAS = 64
-LONGEST_NAME = 16
-NO_NAMES = ("verdict", "join")
+# The largest number of the text format.
+MAX_NUMBER = 4_294_967_295
+# The number of a first clock that is too large. It leaves room for clocks that are slightly earlier.
+NUMBER_OF_LARGE_CLOCK = 1 << 28
+MAX_REPLICAS = 64
+MAX_NAME_LENGTH = 16
+RESERVED_NAMES = ("verdict", "join")
 LETTERS, DIGITS = "abcdefghijklmnopqrstuvwxyz", "0123456789"
 
 
-class Numbers:
-    """Numbers from 1 on, in the order in which what they stand for was first seen."""
+class Numbering:
+    """Numbers for things, from 1 up, in the order of their first use. `role` says in messages what the things are."""
 
-    def __init__(self, what: str) -> None:
-        self._what = what
+    def __init__(self, role: str) -> None:
+        self._role = role
         self._number_of: Dict[Hashable, int] = {}
-        self._seen: List[Hashable] = []
+        self._things: List[Hashable] = []
 
-    def of(self, thing: Hashable) -> int:
-        """The number of this."""
+    def number_of(self, thing: Hashable) -> int:
+        """Returns the number of this thing, which is a new one at its first use."""
         try:
             number = self._number_of.get(thing)
         except TypeError:
-            raise NotRepresentable(f"{thing!r} is no {self._what}: it can be no key of a dictionary") from None
+            raise NotRepresentable(
+                f"{thing!r} cannot be used as {self._role}: expected something that can be a key of a dictionary"
+            ) from None
         if number is None:
-            self._seen.append(thing)
-            number = self._number_of[thing] = len(self._seen)
+            self._things.append(thing)
+            number = self._number_of[thing] = len(self._things)
         return number
 
-    def fresh(self) -> int:
-        """A number that stands for nothing else."""
-        self._seen.append(None)
-        return len(self._seen)
+    def reserve(self) -> int:
+        """Returns a new number that represents nothing else."""
+        self._things.append(None)
+        return len(self._things)
 
-    def back(self, number: int) -> Any:
-        """What this number stands for."""
-        return self._seen[number - 1]
+    def thing_of(self, number: int) -> Any:
+        """Returns the thing with this number, or None if the number was reserved."""
+        return self._things[number - 1]
 
 
 class Clocks:
-    """Clocks as they are, or counted from the first one where that is above the greatest number."""
+    """Numbers for clocks: the clocks themselves, or, if the first one is too large, their distance to it."""
 
     def __init__(self) -> None:
-        self._less: Optional[int] = None
+        self._offset: Optional[int] = None
 
-    def of(self, clock: Any) -> int:
-        """The number of this clock."""
+    def number_of(self, clock: Any) -> int:
+        """Returns the number of this clock."""
         if not isinstance(clock, int) or isinstance(clock, bool):
-            raise NotRepresentable(f"the clock {clock!r} is no whole number: make it one, in the same order")
-        if self._less is None:
-            self._less = clock - FIRST_GREAT_CLOCK if clock > GREATEST else 0
-        number = clock - self._less
-        if number < 1:
             raise NotRepresentable(
-                f"the clock {clock} is too early: {self._less + 1} is the first one that can be told"
+                f"the clock {clock!r} is not a whole number: convert clocks to whole numbers in the same order"
             )
-        if number > GREATEST:
-            last = self._less + GREATEST
+        if self._offset is None:
+            self._offset = clock - NUMBER_OF_LARGE_CLOCK if clock > MAX_NUMBER else 0
+        number = clock - self._offset
+        if not 1 <= number <= MAX_NUMBER:
+            problem = "too early" if number < 1 else "too late"
+            first, last = self._offset + 1, self._offset + MAX_NUMBER
             raise NotRepresentable(
-                f"the clock {clock} is too late: {last} is the last one that can be told in this history"
+                f"the clock {clock} is {problem}: this history can represent the clocks from {first} to {last}"
             )
         return number
 
-    def back(self, number: int) -> int:
-        """The clock of this number."""
-        return number + (self._less or 0)
+    def clock_of(self, number: int) -> int:
+        """Returns the clock with this number."""
+        return number + (self._offset or 0)
 
 
 class Replicas:
-    """The replicas' names of the text, in the order in which a type breaks ties: those that are there from the start,
-    and then those that join."""
+    """The replicas in the order in which the type breaks ties, lowest first, with their names in the text format.
+
+    `keys` are what the user calls them. The initial replicas come first, and those that joined follow.
+    """
 
     def __init__(self, replicas: Sequence[Hashable]) -> None:
-        self.given = list(replicas)
-        if not 1 <= len(self.given) <= MOST_REPLICAS or len(set(self.given)) != len(self.given):
+        self.keys = list(replicas)
+        if not 1 <= len(self.keys) <= MAX_REPLICAS or len(set(self.keys)) != len(self.keys):
             raise NotRepresentable(
-                f"there are 1 to {MOST_REPLICAS} replicas with names of their own, and not {self.given!r}"
+                f"expected 1 to {MAX_REPLICAS} replicas with distinct names, got {self.keys!r}"
             )
-        taken = {it for it in self.given if _is_name(it)}
-        free = _free_names(taken)
-        self.names = [str(it) if it in taken else next(free) for it in self.given]
-        self.first_names = tuple(self.names)
-        self._places = {it: place for place, it in enumerate(self.given)}
+        valid = {it for it in self.keys if _is_name(it)}
+        free = _free_names(valid)
+        self.names = [str(it) if it in valid else next(free) for it in self.keys]
+        self.initial_names = tuple(self.names)
+        self._index_of = {it: index for index, it in enumerate(self.keys)}
 
-    def look_for_room(self, replica: Hashable) -> None:
-        """Raises what tells why it cannot join, if it cannot."""
-        if replica in self._places:
-            raise NotRepresentable(f"there is a replica {replica!r} already: who joins has a name of its own")
-        if len(self.given) == MOST_REPLICAS:
+    def check_join(self, replica: Hashable) -> None:
+        """Raises `NotRepresentable` if this replica cannot join."""
+        if replica in self._index_of:
+            raise NotRepresentable(f"{replica!r} cannot join: a replica of this name exists, so choose another name")
+        if len(self.keys) == MAX_REPLICAS:
             raise NotRepresentable(
-                f"{replica!r} cannot join: there are {MOST_REPLICAS} replicas, and no more can be told"
+                f"{replica!r} cannot join: the history has {MAX_REPLICAS} replicas, which is the maximum; "
+                "use a new Recorder"
             )
 
     def join(self, replica: Hashable) -> None:
-        """One more replica."""
-        self.look_for_room(replica)
+        """Adds this replica as the last one."""
+        self.check_join(replica)
         is_free = _is_name(replica) and replica not in self.names
         self.names.append(str(replica) if is_free else next(_free_names(set(self.names))))
-        self._places[replica] = len(self.given)
-        self.given.append(replica)
+        self._index_of[replica] = len(self.keys)
+        self.keys.append(replica)
 
-    def place(self, replica: Hashable) -> int:
-        """The replica's number."""
-        place = self._places.get(replica)
-        if place is None:
-            raise NotRepresentable(f"there is no replica {replica!r}, but {self.given!r}")
-        return place
+    def index_of(self, replica: Hashable) -> int:
+        """Returns the number of this replica, counted from 0."""
+        index = self._index_of.get(replica)
+        if index is None:
+            raise NotRepresentable(f"unknown replica {replica!r}: expected one of {self.keys!r}")
+        return index
 
-    def back(self, name: str) -> Hashable:
-        """The replica of this name."""
-        return self.given[self.names.index(name)]
+    def key_of(self, name: str) -> Hashable:
+        """Returns what the user calls the replica of this name."""
+        return self.keys[self.names.index(name)]
 
 
 def _free_names(taken: Set[Hashable]) -> Iterator[str]:
-    return (it for it in (f"r{number}" for number in range(2 * MOST_REPLICAS)) if it not in taken)
+    return (it for it in (f"r{number}" for number in range(2 * MAX_REPLICAS)) if it not in taken)
 
 
-def _is_name(given: Hashable) -> bool:
-    if not isinstance(given, str) or not 1 <= len(given) <= LONGEST_NAME or given in NO_NAMES:
+def _is_name(key: Hashable) -> bool:
+    if not isinstance(key, str) or not 1 <= len(key) <= MAX_NAME_LENGTH or key in RESERVED_NAMES:
         return False
-    return given[0] in LETTERS and all(it in LETTERS + DIGITS for it in given)
+    return key[0] in LETTERS and all(it in LETTERS + DIGITS for it in key)

@@ -1,40 +1,40 @@
-"""The identifiers under which an OR-Set's replicas have their elements, by what was reported."""
+"""The identifiers of an OR-Set's elements at each replica, as they follow from the reports."""
 from typing import Dict, List, Set, Tuple
 
 
-# What an update does: its element, its identifiers, and whether they are put in or taken out. A plain tuple, since there
-# are many of them, and the collector of garbage leaves plain tuples of numbers alone.
+# The effect of an update: its element, its identifiers, and whether they are added or removed. A plain tuple, since
+# there are many of them, and the garbage collector does not track plain tuples of numbers.
 Effect = Tuple[object, Tuple[int, ...], bool]
 
 
-class Observed:
-    """For types that do not tell which identifiers a removal takes out."""
+class ObservedIdentifiers:
+    """The identifiers that each replica has observed, for types that do not expose what a removal removes."""
 
     def __init__(self, replicas: int) -> None:
         self._elements: List[Dict[object, Set[int]]] = [{} for _ in range(replicas)]
         self._effects: Dict[int, Effect] = {}
 
     def join(self, source: int) -> None:
-        """One more replica has all that this one has."""
-        self._elements.append({element: set(had) for element, had in self._elements[source].items()})
+        """Adds a replica with a copy of the identifiers of the source."""
+        self._elements.append({element: set(observed) for element, observed in self._elements[source].items()})
 
-    def at(self, place: int, element: object) -> Tuple[int, ...]:
-        """The identifiers under which the replica has this element."""
-        return tuple(sorted(self._elements[place].get(element, ())))
+    def identifiers_of(self, replica: int, element: object) -> Tuple[int, ...]:
+        """Returns the identifiers of this element at this replica."""
+        return tuple(sorted(self._elements[replica].get(element, ())))
 
-    def issue(self, place: int, label: int, effect: Effect) -> None:
-        """The update with this label was made at this replica."""
+    def issue(self, replica: int, label: int, effect: Effect) -> None:
+        """Records the effect of the update with this label, and applies it at the replica that issued it."""
         self._effects[label] = effect
-        self.deliver(place, label)
+        self.deliver(replica, label)
 
-    def deliver(self, place: int, label: int) -> None:
-        """The update with this label has reached this replica."""
+    def deliver(self, replica: int, label: int) -> None:
+        """Applies the update with this label at this replica."""
         element, identifiers, is_addition = self._effects[label]
-        elements = self._elements[place]
-        had = elements.get(element)
-        if had is None:
-            had = elements[element] = set()
+        elements = self._elements[replica]
+        observed = elements.get(element)
+        if observed is None:
+            observed = elements[element] = set()
         if is_addition:
-            had.update(identifiers)
+            observed.update(identifiers)
         else:
-            had.difference_update(identifiers)
+            observed.difference_update(identifiers)

@@ -5,7 +5,7 @@ from .errors import NotRepresentable
 
 Stamp = Union[int, Tuple[int, Hashable]]
 
-# The operations that each kind has.
+# The operations of each kind.
 OPERATIONS: Dict[str, Tuple[str, ...]] = {
     "counter": ("increment", "decrement"),
     "register": ("write",),
@@ -15,15 +15,15 @@ OPERATIONS: Dict[str, Tuple[str, ...]] = {
 }
 
 
-def of_kind(kind: str) -> Tuple[str, ...]:
-    """The operations of this kind."""
+def operations_of(kind: str) -> Tuple[str, ...]:
+    """Returns the names of the operations of this kind."""
     if kind not in OPERATIONS:
-        raise NotRepresentable(f"there is no kind {kind!r}, but {', '.join(OPERATIONS)}")
+        raise NotRepresentable(f"unknown kind {kind!r}: expected {', '.join(OPERATIONS)}")
     return OPERATIONS[kind]
 
 
 class Operation(NamedTuple):
-    """An operation that changes something; `increment()` and its fellows make it."""
+    """An update, as `increment()`, `write(value, stamp)` and the other functions of this module create it."""
 
     word: str
     value: Any = None
@@ -33,26 +33,26 @@ class Operation(NamedTuple):
 
 
 def increment() -> Operation:
-    """A counter: one more."""
+    """Creates a counter's increment by one."""
     return Operation("increment")
 
 
 def decrement() -> Operation:
-    """A counter: one less."""
+    """Creates a counter's decrement by one."""
     return Operation("decrement")
 
 
 def write(value: Hashable, stamp: Stamp) -> Operation:
-    """A register: this value is written, at this stamp: its clock, or its clock and its replica."""
+    """Creates a register's write of this value. The stamp is a clock, or a clock and its replica."""
     return Operation("write", value, None, stamp)
 
 
 def add(
     element: Hashable, stamp: Optional[Stamp] = None, identifier: Optional[Hashable] = None
 ) -> Operation:
-    """A set: this element is put in. An LWW set's addition has a stamp.
+    """Creates a set's addition of this element, with the stamp of an LWW set or the identifier of an OR-Set.
 
-    An OR-Set's addition has an identifier. Where its type does not tell one, the recorder gives it one.
+    The recorder chooses an identifier for an OR-Set whose type does not expose one.
     """
     return Operation("add", element, None, stamp, None if identifier is None else (identifier,))
 
@@ -60,14 +60,14 @@ def add(
 def remove(
     element: Hashable, stamp: Optional[Stamp] = None, identifiers: Optional[Iterable[Hashable]] = None
 ) -> Operation:
-    """A set or a list: this element is taken out. An LWW set's removal has a stamp.
+    """Creates a removal of this element from a set or a list. An LWW set's removal has a stamp.
 
-    An OR-Set's removal has the identifiers that it takes out. Where its type does not tell them, they are those that
-    the replica has by what was reported, and then nothing is said of whether the removal itself saw the right ones.
+    An OR-Set's removal has the identifiers that it removes. If its type does not expose them, the recorder uses those
+    that its replica has observed according to the reports. Then the monitor does not check which ones it removed.
     """
     return Operation("remove", element, None, stamp, None if identifiers is None else tuple(identifiers))
 
 
 def insert_after(anchor: Hashable, element: Hashable, stamp: Stamp) -> Operation:
-    """A list: this element is put directly behind the anchor, or at the beginning where that is None."""
+    """Creates a list's insertion of this element directly behind the anchor, or at the start if that is None."""
     return Operation("insert_after", element, anchor, stamp)

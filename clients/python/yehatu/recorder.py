@@ -15,36 +15,40 @@ from typing import (
     Union,
 )
 
-from . import account, operations
+from . import operations
 from .errors import NotRepresentable
+from .failure_report import FailureReport, create_error
 from .monitor import Monitor, Report
-from .observed import Effect, Observed
+from .observed import Effect, ObservedIdentifiers
 from .operations import Operation, Stamp
 from .program import Program
-from .spelling import Speller
+from .translation import Translator
 
 Act = Optional[Callable[[], Any]]
+# The update of a message: its label, its replica, and its position among that replica's updates. A plain tuple, since
+# the garbage collector does not track plain tuples of numbers.
+Message = Tuple[int, int, int]
 
 
 class Seen(NamedTuple):
-    """What a replica had seen at one moment: how many updates of each replica."""
+    """The updates that had been delivered to a replica at one moment, as a count for each replica."""
 
     replica: Hashable
     counts: Sequence[int]
 
 
 class Recorder:
-    """Speaks to the monitor for replicas with any names, in the order in which the type breaks ties, lowest first.
+    """A reporter for replicas with any names, given in the order in which the type breaks ties, lowest first.
 
-    Each call is one step: it runs the act, and reports it before another thread's act runs. So an act does not wait
-    for another replica. What is known only after the act (an operation, a message's key, a value that is read) may be
-    given as a function, which is called with what the act returned.
+    Each call is one step: it runs the act and reports it before the act of another thread runs. So an act must not
+    wait for another replica. What is known only after the act (an operation, a message's key, a value that is read)
+    may be a function, which is called with the result of the act.
 
-    Values, elements, identifiers and keys are anything that can be a key of a dictionary, and what is equal there is
-    one thing here. The first report that is not answered as right raises `NotLinearizable` or `Refused`, as soon as
-    the reply is seen, and so does each call after it; with a `window` of 1 it is seen in the call itself. `history` is
-    the file that is then written, and `nothing` what a register reads where nothing was written. A `monitor` takes the
-    lines in place of a program.
+    Values, elements, identifiers and keys are anything that can be a key of a dictionary; equal keys are one thing
+    here. The first report that fails raises `NotLinearizable` or `Refused` as soon as its reply has arrived, and so
+    does each later call. With a `window` of 1 the call itself raises. The history is then written to the file
+    `history`. `nothing` is the result of a register's read before the first write. A `monitor` receives the lines
+    instead of a program.
     """
 
     def __init__(
@@ -58,20 +62,21 @@ class Recorder:
         nothing: Any = None,
         monitor: Any = None,
     ) -> None:
-        self._speller = Speller(kind, replicas, nothing)
-        names = self._speller.replicas.names
+        self._translator = Translator(kind, replicas, nothing)
+        names = self._translator.replicas.names
         self._monitor = monitor or Monitor(kind, names, program=program, window=window)
         self._lock = threading.RLock()
         self._history = history
         self._labels = 0
         self._commands = 0
-        # What is told before the command of a number: whose state is merged.
+        # Lines that a failure report prints before the command of a number, which say whose state is merged.
         self._notes: Dict[int, List[str]] = {}
-        self._had = [[0] * len(names) for _ in names]
+        # For each replica, how many updates of each other one were delivered to it.
+        self._delivered = [[0] * len(names) for _ in names]
+        # For each replica, the labels of its updates.
         self._updates: List[List[int]] = [[] for _ in names]
-        # Of each message its label, and the replica and place of its update.
-        self._messages: Dict[Hashable, Tuple[int, int, int]] = {}
-        self._observed = Observed(len(names)) if kind == "orset" else None
+        self._messages: Dict[Hashable, Message] = {}
+        self._observed = ObservedIdentifiers(len(names)) if kind == "orset" else None
         self._failure: Optional[Exception] = None
 
     # Steps of any kind.
@@ -80,64 +85,64 @@ class Recorder:
         self, replica: Hashable, operation: Union[Operation, Callable[[Any], Operation]], *, act: Act = None,
         message: Any = None,
     ) -> Any:
-        """The replica changes something, and answers what the act returns; others get it as the message of this key."""
+        """Reports an update, and returns the result of the act. `message` is the key that its deliveries name."""
         return self._step(replica, act, self._update, operation, message)
 
     def deliver(self, replica: Hashable, message: Any, *, act: Act = None) -> Any:
-        """The message of this key reaches the replica, which applies it. One that it has already is not reported."""
+        """Reports that the replica applies the message of this key. A repeated delivery runs the act alone."""
         return self._step(replica, act, self._deliver_message, message)
 
     def merge(self, replica: Hashable, messages: Union[Seen, Iterable[Hashable]], *, act: Act = None) -> Any:
-        """The replica merges what has these messages in it, or what another replica had `seen`."""
+        """Reports that the replica merges a state, given by its messages or by what another replica had `seen`."""
         return self._step(replica, act, self._merge, messages)
 
     def join(self, replica: Hashable, source: Hashable, *, act: Act = None) -> Any:
-        """A new replica joins with all that the source has, which the act copies; at one clock it is the latest one.
+        """Reports that a new replica joins with a copy of the source's state, which the act makes.
 
-        Who cannot join, since there is one of this name or there are 64, is told before the act, and the history goes
-        on without it.
+        It is the last replica in the order of ties. A join that is impossible, because the name exists or there are 64
+        replicas, raises `NotRepresentable` before the act, and the history continues without it.
         """
-        def report(place: int) -> None:
-            self._join(replica, place)
+        def report(source_index: int) -> None:
+            self._join(replica, source_index)
 
-        def look() -> None:
-            self._speller.replicas.look_for_room(replica)
+        def check() -> None:
+            self._translator.replicas.check_join(replica)
 
-        return self._step(source, act, report, before=look)
+        return self._step(source, act, report, before=check)
 
     def read(self, replica: Hashable, value: Any) -> Any:
-        """The replica's value is read: this one, or the one that this function answers."""
+        """Reports a read of this value, or of the value that this function returns. Returns the value."""
         if callable(value):
-            return self._step(replica, value, self._read, _same)
+            return self._step(replica, value, self._read, _identity)
         self._step(replica, None, self._read, value)
         return value
 
     def seen(self, replica: Hashable) -> Seen:
-        """What the replica has seen by now, for a `merge` of the state that it has now."""
+        """Returns the updates that were delivered to the replica so far, for a `merge` of its current state."""
         with self._lock:
-            return Seen(replica, tuple(self._had[self._speller.replicas.place(replica)]))
+            return Seen(replica, tuple(self._delivered[self._translator.replicas.index_of(replica)]))
 
     def step(self) -> ContextManager[Any]:
-        """`with recorder.step():` makes one step of an act and its reports, where `act` is not at hand."""
+        """Returns a context that makes one step of an act and its reports, for acts that are not a function."""
         return self._lock
 
     # The operations of each kind.
 
     def increment(self, replica: Hashable, *, act: Act = None, message: Any = None) -> Any:
-        """A counter: one more."""
+        """Reports a counter's increment by one."""
         return self._step(replica, act, self._update, operations.increment(), message)
 
     def decrement(self, replica: Hashable, *, act: Act = None, message: Any = None) -> Any:
-        """A counter: one less."""
+        """Reports a counter's decrement by one."""
         return self._step(replica, act, self._update, operations.decrement(), message)
 
     def write(
         self, replica: Hashable, value: Hashable, stamp: Union[Stamp, Callable[[Any], Stamp]], *, act: Act = None,
         message: Any = None,
     ) -> Any:
-        """A register: this value is written."""
-        def report(place: int, stamp: Stamp, message: Hashable) -> None:
-            self._update(place, operations.write(value, stamp), message)
+        """Reports a register's write of this value."""
+        def report(index: int, stamp: Stamp, message: Hashable) -> None:
+            self._update(index, operations.write(value, stamp), message)
 
         return self._step(replica, act, report, stamp, message)
 
@@ -145,9 +150,9 @@ class Recorder:
         self, replica: Hashable, element: Hashable, stamp: Any = None, *, identifier: Any = None, act: Act = None,
         message: Any = None,
     ) -> Any:
-        """A set: this element is put in, at a stamp (LWW set) or under an identifier (OR-Set)."""
-        def report(place: int, stamp: Any, identifier: Any, message: Hashable) -> None:
-            self._update(place, operations.add(element, stamp, identifier), message)
+        """Reports a set's addition, with the stamp of an LWW set or the identifier of an OR-Set."""
+        def report(index: int, stamp: Any, identifier: Any, message: Hashable) -> None:
+            self._update(index, operations.add(element, stamp, identifier), message)
 
         return self._step(replica, act, report, stamp, identifier, message)
 
@@ -155,9 +160,9 @@ class Recorder:
         self, replica: Hashable, element: Hashable, stamp: Any = None, *, identifiers: Any = None, act: Act = None,
         message: Any = None,
     ) -> Any:
-        """A set or a list: this element is taken out, at a stamp (LWW set) or with its identifiers (OR-Set)."""
-        def report(place: int, stamp: Any, identifiers: Any, message: Hashable) -> None:
-            self._update(place, operations.remove(element, stamp, identifiers), message)
+        """Reports a removal, with the stamp of an LWW set or the identifiers of an OR-Set."""
+        def report(index: int, stamp: Any, identifiers: Any, message: Hashable) -> None:
+            self._update(index, operations.remove(element, stamp, identifiers), message)
 
         return self._step(replica, act, report, stamp, identifiers, message)
 
@@ -165,30 +170,30 @@ class Recorder:
         self, replica: Hashable, anchor: Hashable, element: Hashable, stamp: Union[Stamp, Callable[[Any], Stamp]], *,
         act: Act = None, message: Any = None,
     ) -> Any:
-        """A list: this element is put directly behind the anchor, or at the beginning where that is None."""
-        def report(place: int, stamp: Stamp, message: Hashable) -> None:
-            self._update(place, operations.insert_after(anchor, element, stamp), message)
+        """Reports a list's insertion directly behind the anchor, or at the start if that is None."""
+        def report(index: int, stamp: Stamp, message: Hashable) -> None:
+            self._update(index, operations.insert_after(anchor, element, stamp), message)
 
         return self._step(replica, act, report, stamp, message)
 
     # The end.
 
     def settle(self) -> None:
-        """Waits for all replies, and raises what they say."""
+        """Waits for all replies. Raises the failure, if there is one."""
         self._monitor.settle()
         with self._lock:
-            self._look()
+            self._raise_failure()
 
     def close(self) -> Report:
-        """Ends the history, and answers what all came to. Raises what the replies say, if they say no.
+        """Ends the history and returns the report. Raises the failure, if there is one.
 
-        An act that could not be told (`NotRepresentable`) is raised once more: of what follows it nothing was judged.
+        A `NotRepresentable` that was raised after an act is raised again, since no later step was checked.
         """
         try:
             report = self._monitor.close()
         finally:
             with self._lock:
-                self._look()
+                self._raise_failure()
         return report
 
     def __enter__(self) -> "Recorder":
@@ -201,50 +206,53 @@ class Recorder:
             self.stop()
 
     def stop(self) -> None:
-        """Gives the history up, without asking how it ended."""
+        """Ends the history without waiting for replies."""
         self._monitor.stop()
 
     def history(self) -> str:
-        """The text so far, which `ra_monitor check` reads."""
+        """Returns the text so far, which `ra_monitor check` reads."""
         return self._monitor.history()
 
-    def head(self) -> str:
-        """The first two lines of the text."""
-        return self._speller.head()
+    def header(self) -> str:
+        """Returns the first two lines of the text."""
+        return self._translator.header()
 
-    def account(self, text: str) -> account.Account:
-        """This text, which is one of this recorder's, in the user's words, without the messages' keys."""
-        return account.Account(self._speller, text, {}, self._notes)
+    def failure_report(self, text: str) -> FailureReport:
+        """Returns a report on this text of this recorder, without the messages' keys."""
+        return FailureReport(self._translator, text, {}, self._notes)
 
     # Under the lock.
 
     def _step(
-        self, replica: Hashable, act: Act, report: Callable[..., None], *given: Any, before: Act = None
+        self, replica: Hashable, act: Act, report: Callable[..., None], *arguments: Any, before: Act = None
     ) -> Any:
-        """Runs the act, and reports what is given, or what it answers of what the act returned. What `before` raises
-        comes before the act."""
+        """Runs `before` and the act, and calls `report` with the replica's number and the arguments.
+
+        An argument that is a function is replaced by its result for the act's result.
+        """
         with self._lock:
             if self._failure is not None or self._monitor.unexpected is not None:
-                self._look()
-            place = self._speller.replicas.place(replica)
+                self._raise_failure()
+            index = self._translator.replicas.index_of(replica)
             if before is not None:
                 before()
-            done = None if act is None else act()
+            result = None if act is None else act()
             try:
-                report(place, *[it(done) if callable(it) else it for it in given])
-            except NotRepresentable as fault:
-                # The act was made and is not reported, so what follows would be judged wrongly.
-                self._failure = fault
+                report(index, *[it(result) if callable(it) else it for it in arguments])
+            except NotRepresentable as error:
+                # The act has run and is not reported, so the monitor would check later steps against a wrong history.
+                self._failure = error
                 raise
-            return done
+            return result
 
-    def _look(self) -> None:
+    def _raise_failure(self) -> None:
         if self._failure is None and self._monitor.unexpected is not None:
             command, reply = self._monitor.unexpected
             text = self._monitor.history(command + 1)
-            keys = {sent[0]: key for key, sent in self._messages.items()}
-            told = account.Account(self._speller, text, keys, self._notes)
-            self._failure = account.failure(told, text, reply, self._history, getattr(self._monitor, "program", None))
+            keys = {message[0]: key for key, message in self._messages.items()}
+            report = FailureReport(self._translator, text, keys, self._notes)
+            program = getattr(self._monitor, "program", None)
+            self._failure = create_error(report, text, reply, self._history, program)
         if self._failure is not None:
             raise self._failure
 
@@ -252,87 +260,87 @@ class Recorder:
         self._commands += 1
         self._monitor.post(line, expected)
         if self._monitor.unexpected is not None:
-            self._look()
+            self._raise_failure()
 
-    def _update(self, place: int, operation: Operation, message: Hashable) -> None:
+    def _update(self, replica: int, operation: Operation, message: Hashable) -> None:
         if message is not None and message in self._messages:
-            raise NotRepresentable(f"there was a message {message!r} before: give each its own key")
+            raise NotRepresentable(f"the message {message!r} was reported before: each message needs its own key")
         label, effect = self._labels, None
         if self._observed is not None:
-            operation, effect = self._identified(place, operation)
-        line = self._speller.operation(place, operation)
+            operation, effect = self._number_identifiers(replica, operation)
+        line = self._translator.operation_line(replica, operation)
         self._labels += 1
         if message is not None:
-            self._messages[message] = (label, place, len(self._updates[place]))
-        self._updates[place].append(label)
-        self._had[place][place] += 1
+            self._messages[message] = (label, replica, len(self._updates[replica]))
+        self._updates[replica].append(label)
+        self._delivered[replica][replica] += 1
         if effect is not None and self._observed is not None:
-            self._observed.issue(place, label, effect)
+            self._observed.issue(replica, label, effect)
         self._post(line, f"ok {label}")
 
-    def _identified(self, place: int, operation: Operation) -> Tuple[Operation, Effect]:
-        """The operation of an OR-Set with identifiers by number, and what it does."""
-        numbers, is_addition = self._speller.identifiers, operation.word == "add"
+    def _number_identifiers(self, replica: int, operation: Operation) -> Tuple[Operation, Effect]:
+        """Returns the operation of an OR-Set with numbers as identifiers, and its effect."""
+        numbering, is_addition = self._translator.identifiers, operation.word == "add"
         if operation.identifiers is not None:
-            named = tuple([numbers.of(it) for it in operation.identifiers])
+            numbers = tuple([numbering.number_of(it) for it in operation.identifiers])
         elif is_addition:
-            named = (numbers.fresh(),)
+            numbers = (numbering.reserve(),)
         else:
-            named = self._observed.at(place, operation.value)  # type: ignore[union-attr]
-        identified = Operation(operation.word, operation.value, None, None, named)
-        return identified, (operation.value, named, is_addition)
+            numbers = self._observed.identifiers_of(replica, operation.value)  # type: ignore[union-attr]
+        numbered = Operation(operation.word, operation.value, None, None, numbers)
+        return numbered, (operation.value, numbers, is_addition)
 
-    def _deliver_message(self, place: int, message: Hashable) -> None:
-        self._deliver(place, self._sent(message))
+    def _deliver_message(self, replica: int, message: Hashable) -> None:
+        self._deliver(replica, self._find_message(message))
 
-    def _deliver(self, place: int, sent: Tuple[int, int, int]) -> None:
-        label, issuer, number = sent
-        had = self._had[place]
-        if number < had[issuer]:
+    def _deliver(self, replica: int, message: Message) -> None:
+        label, issuer, position = message
+        delivered = self._delivered[replica]
+        if position < delivered[issuer]:
             return
-        had[issuer] = number + 1
+        delivered[issuer] = position + 1
         if self._observed is not None:
-            self._observed.deliver(place, label)
-        self._post(self._speller.got(place, label), f"got {label}")
+            self._observed.deliver(replica, label)
+        self._post(self._translator.delivery_line(replica, label), f"got {label}")
 
-    def _merge(self, place: int, messages: Union[Seen, Iterable[Hashable]]) -> None:
+    def _merge(self, replica: int, messages: Union[Seen, Iterable[Hashable]]) -> None:
         if isinstance(messages, Seen):
-            had = self._had[place]
-            merges = f"{self._speller.replicas.given[place]!r} merges the state of {messages.replica!r}"
-            self._notes.setdefault(self._commands, []).append(merges)
+            delivered = self._delivered[replica]
+            note = f"{self._translator.replicas.keys[replica]!r} merges the state of {messages.replica!r}"
+            self._notes.setdefault(self._commands, []).append(note)
             merged = [
-                (self._updates[issuer][number], issuer, number)
+                (self._updates[issuer][position], issuer, position)
                 for issuer, count in enumerate(messages.counts)
-                for number in range(had[issuer], count)
+                for position in range(delivered[issuer], count)
             ]
         else:
-            merged = [self._sent(it) for it in messages]
-        for sent in sorted(merged):
-            self._deliver(place, sent)
+            merged = [self._find_message(it) for it in messages]
+        # Labels are numbered in the order of the reports, so this order is causal.
+        for message in sorted(merged):
+            self._deliver(replica, message)
 
     def _join(self, replica: Hashable, source: int) -> None:
-        line, place = self._speller.join(replica, source), len(self._had)
-        self._had.append(list(self._had[source]))
-        for had in self._had:
-            had.append(0)
+        line, index = self._translator.join(replica, source), len(self._delivered)
+        self._delivered.append(list(self._delivered[source]))
+        for delivered in self._delivered:
+            delivered.append(0)
         self._updates.append([])
         if self._observed is not None:
             self._observed.join(source)
-        self._post(line, f"joined {place}")
+        self._post(line, f"joined {index}")
 
-    def _read(self, place: int, value: Any) -> None:
-        line = self._speller.read(place, value)
+    def _read(self, replica: int, value: Any) -> None:
+        line = self._translator.read_line(replica, value)
         label = self._labels
         self._labels += 1
         self._post(line, f"ok {label}")
 
-    def _sent(self, message: Hashable) -> Tuple[int, int, int]:
-        sent = self._messages.get(message)
-        if sent is None:
-            raise NotRepresentable(f"there was no message {message!r}: report the update that sends it first")
-        return sent
+    def _find_message(self, message: Hashable) -> Message:
+        found = self._messages.get(message)
+        if found is None:
+            raise NotRepresentable(f"unknown message {message!r}: report the update that sends it before its delivery")
+        return found
 
 
-def _same(done: Any) -> Any:
-    """What was read is what is reported."""
-    return done
+def _identity(result: Any) -> Any:
+    return result

@@ -1,0 +1,181 @@
+// Translates between operations in the user's names and lines of the text format.
+import { inspect } from "node:util";
+import { NotRepresentable } from "./errors.js";
+import { Clocks, Numbering, Replicas } from "./numbers.js";
+import { operationsOf } from "./operations.js";
+
+const MIN_COUNT = -2_147_483_648;
+const MAX_COUNT = 2_147_483_647;
+
+/**
+ * The lines of one history, with the user's values that their numbers represent. `nothing` is the result of a
+ * register's read before the first write.
+ */
+export class Translator {
+  identifiers = new Numbering();
+  #values = new Numbering();
+  #clocks = new Clocks();
+  #nothing;
+  #operations;
+  #formatters = {
+    increment: () => "inc",
+    decrement: () => "dec",
+    write: (replica, operation) => this.#formatWrite(replica, operation),
+    add: (replica, operation) => this.#formatChange(replica, operation),
+    remove: (replica, operation) => this.#formatChange(replica, operation),
+    insertAfter: (replica, operation) => this.#formatInsertion(replica, operation),
+  };
+
+  constructor(kind, replicas, nothing = null) {
+    this.#operations = operationsOf(kind);
+    this.kind = kind;
+    this.replicas = new Replicas(replicas);
+    this.#nothing = nothing;
+  }
+
+  /** Returns the first two lines. */
+  header() {
+    return `RAH 2 ${this.kind}\nreplicas ${this.replicas.initialNames.join(" ")}\n`;
+  }
+
+  /** Returns the line of an update at this replica. The identifiers of an OR-Set's update are numbers. */
+  operationLine(replica, operation) {
+    if (!this.#operations.includes(operation.word)) {
+      const expected = this.#operations.join(" or ");
+      throw new NotRepresentable(
+        `${operation.word} is not an operation of the kind ${this.kind}: expected ${expected}`,
+      );
+    }
+    return `${this.replicas.names[replica]} ${this.#formatters[operation.word](replica, operation)}`;
+  }
+
+  /** Adds a replica that joins from the source, and returns the line of the join. */
+  join(replica, source) {
+    this.replicas.join(replica);
+    return `join ${this.replicas.names.at(-1)} ${this.replicas.names[source]}`;
+  }
+
+  /** Returns the line of a delivery. */
+  deliveryLine(replica, label) {
+    return `${this.replicas.names[replica]} got ${label}`;
+  }
+
+  /** Returns the line of a read that returned this value. */
+  readLine(replica, value) {
+    return `${this.replicas.names[replica]} read ${this.#formatResult(value)}`;
+  }
+
+  #formatWrite(replica, operation) {
+    if (this.#isNothing(operation.value)) {
+      throw new NotRepresentable(
+        `${inspect(operation.value)} cannot be written, since it represents an unwritten register: ` +
+          "pass another `nothing` to the Recorder",
+      );
+    }
+    return `write ${this.#values.numberOf(operation.value)}${this.#formatClock(replica, operation.stamp)}`;
+  }
+
+  /** Formats an addition or a removal. */
+  #formatChange(replica, operation) {
+    return `${operation.word} ${this.#values.numberOf(operation.value)}${this.#formatKey(replica, operation)}`;
+  }
+
+  #formatInsertion(replica, operation) {
+    const isFirst = operation.anchor === null || operation.anchor === undefined;
+    const anchor = isFirst ? 0 : this.#values.numberOf(operation.anchor);
+    const element = this.#values.numberOf(operation.value);
+    return `after ${anchor} ${element}${this.#formatClock(replica, operation.stamp)}`;
+  }
+
+  /** Formats the stamp of an LWW set's update, the identifiers of an OR-Set's update, or nothing for a list. */
+  #formatKey(replica, { stamp, identifiers }) {
+    if (this.kind === "lwwset") return this.#formatClock(replica, stamp);
+    return this.kind === "orset" ? ` #${joinNumbers(sortUnique(identifiers))}` : "";
+  }
+
+  #formatClock(replica, stamp) {
+    if (stamp === undefined || stamp === null) {
+      throw new NotRepresentable("the stamp is missing: pass the clock of the update, or the clock and the replica");
+    }
+    if (!Array.isArray(stamp)) return ` @${this.#clocks.numberOf(stamp)}`;
+    if (this.replicas.indexOf(stamp[1]) !== replica) {
+      const key = inspect(this.replicas.keys[replica]);
+      throw new NotRepresentable(`the stamp ${inspect(stamp)} names another replica: expected ${key}`);
+    }
+    return ` @${this.#clocks.numberOf(stamp[0])}`;
+  }
+
+  #formatResult(value) {
+    if (this.kind === "counter") {
+      const isWhole = typeof value === "bigint" || Number.isInteger(value);
+      if (!isWhole || value < MIN_COUNT || value > MAX_COUNT) {
+        throw new NotRepresentable(
+          `a counter's read returned ${inspect(value)}: expected a whole number from ${MIN_COUNT} to ${MAX_COUNT}`,
+        );
+      }
+      // Adding 0 turns -0 into 0.
+      return String(Number(value) + 0);
+    }
+    if (this.kind === "register") return this.#isNothing(value) ? "none" : this.#values.numberOf(value);
+    if (typeof value?.[Symbol.iterator] !== "function") {
+      throw new NotRepresentable(
+        `a read returned ${inspect(value)}: expected an array or another iterable of the elements`,
+      );
+    }
+    const numbers = Array.from(value, (it) => this.#values.numberOf(it));
+    return joinNumbers(this.kind === "rga" ? numbers : sortUnique(numbers));
+  }
+
+  #isNothing(value) {
+    return Object.is(value, this.#nothing) || (this.#nothing === null && value === undefined);
+  }
+
+  /** Describes a line in the user's names. `describeLabel` describes the label of a delivery. */
+  describe(line, describeLabel) {
+    const [name, word, ...fields] = line.split(" ");
+    if (isJoin(line)) return `${this.#describeReplica(word)} joins with a copy of ${this.#describeReplica(fields[0])}`;
+    const hasClock = fields.at(-1)?.startsWith("@");
+    const clock = hasClock ? ` at clock ${this.#clocks.clockOf(fields.pop().slice(1))}` : "";
+    return `${this.#describeReplica(name)} ${this.#describeCommand(word, fields, describeLabel)}${clock}`;
+  }
+
+  #describeReplica(name) {
+    return inspect(this.replicas.keyOf(name));
+  }
+
+  #describeValue(number) {
+    return inspect(this.#values.thingOf(number));
+  }
+
+  #describeCommand(word, fields, describeLabel) {
+    if (word === "got") return `receives ${describeLabel(Number(fields[0]))}`;
+    if (word === "read") return `reads ${this.#describeResult(fields[0])}`;
+    if (word === "after") {
+      const anchor = fields[0] === "0" ? "at the beginning" : `behind ${this.#describeValue(fields[0])}`;
+      return `inserts ${this.#describeValue(fields[1])} ${anchor}`;
+    }
+    if (word === "inc" || word === "dec") return `${word}rements`;
+    const verb = { write: "writes", add: "adds", remove: "removes" }[word];
+    const under = fields.length > 1 ? ` under ${this.#describeIdentifiers(fields[1].slice(1))}` : "";
+    return `${verb} ${this.#describeValue(fields[0])}${under}`;
+  }
+
+  #describeResult(result) {
+    if (this.kind === "counter") return result;
+    if (this.kind === "register") return result === "none" ? inspect(this.#nothing) : this.#describeValue(result);
+    return `[${parseNumbers(result).map((it) => this.#describeValue(it)).join(", ")}]`;
+  }
+
+  #describeIdentifiers(identifiers) {
+    const things = parseNumbers(identifiers).map((it) => this.identifiers.thingOf(it));
+    return things.map((it) => (it === undefined ? "an unnamed one" : inspect(it))).join(", ") || "none";
+  }
+}
+
+/** Returns whether a replica joins in this line, which then begins with no name. */
+const isJoin = (line) => line.startsWith("join ");
+/** Returns whether the line reports an operation, which becomes a label. */
+export const isOperation = (line) => !isJoin(line) && line.split(" ", 2)[1] !== "got";
+const joinNumbers = (numbers) => numbers.join(",") || "-";
+const sortUnique = (numbers) => [...new Set(numbers)].sort((one, other) => one - other);
+const parseNumbers = (text) => (text === "-" ? [] : text.split(",").map(Number));

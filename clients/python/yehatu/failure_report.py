@@ -1,0 +1,135 @@
+"""Reports on a failed history, in the user's names."""
+import os
+import tempfile
+from typing import Any, Dict, Hashable, List, Optional, Sequence
+
+from . import program as programs
+from .errors import MonitorExited, NotLinearizable, Refused
+from .translation import Translator, is_operation
+
+# The largest number of a history's last lines in a message.
+SHOWN_LINES = 16
+HEADER_LINES = 2
+# The largest number of suggested changes in a message.
+SHOWN_CHANGES = 5
+MEANINGS = {
+    "order": "its clock is not greater than each clock that it sees",
+    "update": "it cannot be applied at its position in the order",
+    "query": "its result does not follow from the updates that it sees",
+    "stamp-taken": "another operation of its replica used this clock before",
+    "id-taken": "another addition used this identifier before",
+}
+NOT_CAUSAL = "refused not-causal "
+
+# The meaning of `query` for an OR-Set's removal, which names the identifiers that its replica has observed.
+OTHER_IDENTIFIERS = (
+    "it names other identifiers than its replica had observed of the element; if an addition replaces older ones, "
+    "leave the identifiers out"
+)
+
+
+class FailureReport:
+    """The commands of a failed history, described in the user's names.
+
+    `message_keys` has the key of each label's message, and `notes` the lines that are printed before the command with
+    a given number.
+    """
+
+    def __init__(
+        self, translator: Translator, text: str, message_keys: Dict[int, Hashable], notes: Dict[int, List[str]]
+    ) -> None:
+        self._translator = translator
+        self._message_keys = message_keys
+        self._notes = notes
+        self.commands = text.splitlines()[HEADER_LINES:]
+        self._line_of = dict(enumerate(filter(is_operation, self.commands)))
+
+    def describe(self, command: int) -> str:
+        """Returns a description of the command with this number."""
+        return self._translator.describe(self.commands[command], self._describe_label)
+
+    def _describe_label(self, label: int) -> str:
+        message = f"message {self._message_keys[label]!r}, " if label in self._message_keys else ""
+        return f"{message}label {label} ({self._translator.describe(self._line_of[label], self._describe_label)})"
+
+    def format_commands(self, replies: Sequence[str] = (), first: int = 0) -> str:
+        """Returns a table of the commands from number `first` on: each with its reply, if any, and its description."""
+        rows = []
+        for number, line in enumerate(self.commands[first:], first):
+            rows += [("", "", note) for note in self._notes.get(number, ())]
+            rows.append((line, replies[number] if replies else "", self.describe(number)))
+        widths = [max((len(row[column]) for row in rows), default=0) for column in (0, 1)]
+        padded = ((line.ljust(widths[0]), reply.ljust(widths[1]), description) for line, reply, description in rows)
+        return "\n".join("    " + "  ".join(it for it in row if it) for row in padded)
+
+    def summarize(self, text: str, reply: str, program: Optional[str]) -> str:
+        """Describes the last command of the text and its reply.
+
+        A violation is followed by the expected result and the changes of deliveries that would explain it, if the
+        program can explain.
+        """
+        operation = self.describe(len(self.commands) - 1)
+        explanation = programs.explain_violation(program, text) if reply.startswith("no ") else None
+        return f"{operation}: {self.describe_reply(reply)}{self._format_explanation(explanation)}"
+
+    def _format_explanation(self, explanation: Optional[Dict[str, Any]]) -> str:
+        if explanation is None:
+            return ""
+        expected, changes, tried = (explanation[key] for key in ("right", "would_be_right", "tried"))
+        rows = []
+        if expected is not None:
+            rows.append(f"expected: {self._translator.describe(expected, self._describe_label)}")
+        rows += [f"explained if {self._describe_change(it)}" for it in changes[:SHOWN_CHANGES]]
+        if tried and not changes:
+            rows.append(f"no single change of deliveries explains it ({tried} tried)")
+        return "".join(f"\n{row}" for row in rows)
+
+    def _describe_change(self, change: Dict[str, int]) -> str:
+        if "gets" in change:
+            return f"{self._describe_label(change['gets'])} had been delivered before"
+        (kind, line), = change.items()
+        command = self.describe(line - HEADER_LINES - 1)
+        if kind == "misses_line":
+            return f"this had not been delivered: {command}"
+        return f"it had come before this: {command}"
+
+    def describe_reply(self, reply: str) -> str:
+        """Returns what a reply to the last command means."""
+        if reply.startswith(NOT_CAUSAL):
+            missing = self._describe_label(int(reply[len(NOT_CAUSAL) :]))
+            return f"refused, {missing} has to be delivered first"
+        causes = [it for it in reply.split(" ") if it in MEANINGS]
+        verdict = "not RA-linearizable" if reply.startswith("no ") else "refused"
+        if " remove " in self.commands[-1] and causes == ["query"]:
+            return f"{verdict}, {OTHER_IDENTIFIERS}"
+        return f"{verdict}, {MEANINGS[causes[0]]}" if causes else reply
+
+
+def create_error(
+    report: FailureReport, text: str, reply: str, path: Optional[str], program: Optional[str]
+) -> Exception:
+    """Creates the exception for a history whose last command had this reply, and saves the history."""
+    last = len(report.commands) - 1
+    if reply.split(" ")[0] not in ("no", "refused"):
+        return MonitorExited(
+            f"the program is not a monitor: it replied {reply!r} to {report.commands[last]!r}; "
+            "set RA_MONITOR to the path of ra_monitor"
+        )
+    saved = save_history(text, path)
+    operation = report.describe(last)
+    shown = report.format_commands(first=max(0, last + 1 - SHOWN_LINES))
+    message = (
+        f"{report.summarize(text, reply, program)}\n"
+        f"line {last + HEADER_LINES + 1} of {saved}, reply {reply!r}; the last lines:\n{shown}"
+    )
+    return (NotLinearizable if reply.startswith("no ") else Refused)(message, operation, reply, saved)
+
+
+def save_history(text: str, path: Optional[str]) -> str:
+    """Writes the history to this file, or to a new temporary file, and returns the path."""
+    if path is None:
+        number, path = tempfile.mkstemp(prefix="yehatu_", suffix=".rah")
+        os.close(number)
+    with open(path, "w", encoding="ascii", newline="\n") as file:
+        file.write(text)
+    return path

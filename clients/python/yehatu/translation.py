@@ -1,0 +1,185 @@
+"""Translates between operations in the user's names and lines of the text format."""
+from typing import Any, Callable, Collection, Dict, Hashable, Iterable, List, Sequence
+
+from .errors import NotRepresentable
+from .numbers import Clocks, Numbering, Replicas
+from .operations import Operation, Stamp, operations_of
+
+MIN_COUNT, MAX_COUNT = -(1 << 31), (1 << 31) - 1
+
+
+class Translator:
+    """The lines of one history, with the user's values that their numbers represent.
+
+    `nothing` is the result of a register's read before the first write.
+    """
+
+    def __init__(self, kind: str, replicas: Sequence[Hashable], nothing: Any = None) -> None:
+        operations = operations_of(kind)
+        self.kind = kind
+        self.replicas = Replicas(replicas)
+        self.identifiers = Numbering("an identifier")
+        self._values = Numbering("a value" if kind == "register" else "an element")
+        self._clocks = Clocks()
+        self._nothing = nothing
+        formatters: Dict[str, Callable[[int, Operation], str]] = {
+            "increment": lambda replica, operation: "inc",
+            "decrement": lambda replica, operation: "dec",
+            "write": self._format_write,
+            "add": self._format_addition,
+            "remove": self._format_removal,
+            "insert_after": self._format_insertion,
+        }
+        self._formatters = {it: formatters[it] for it in operations}
+
+    def header(self) -> str:
+        """Returns the first two lines."""
+        return f"RAH 2 {self.kind}\nreplicas {' '.join(self.replicas.initial_names)}\n"
+
+    def operation_line(self, replica: int, operation: Operation) -> str:
+        """Returns the line of an update at this replica. The identifiers of an OR-Set's update are numbers."""
+        format_fields = self._formatters.get(operation.word)
+        if format_fields is None:
+            expected = " or ".join(self._formatters)
+            raise NotRepresentable(
+                f"{operation.word} is not an operation of the kind {self.kind}: expected {expected}"
+            )
+        return f"{self.replicas.names[replica]} {format_fields(replica, operation)}"
+
+    def join(self, replica: Hashable, source: int) -> str:
+        """Adds a replica that joins from the source, and returns the line of the join."""
+        self.replicas.join(replica)
+        return f"join {self.replicas.names[-1]} {self.replicas.names[source]}"
+
+    def delivery_line(self, replica: int, label: int) -> str:
+        """Returns the line of a delivery."""
+        return f"{self.replicas.names[replica]} got {label}"
+
+    def read_line(self, replica: int, value: Any) -> str:
+        """Returns the line of a read that returned this value."""
+        return f"{self.replicas.names[replica]} read {self._format_result(value)}"
+
+    # The fields of a line after the replica's name.
+
+    def _format_write(self, replica: int, operation: Operation) -> str:
+        if _are_equal(operation.value, self._nothing):
+            raise NotRepresentable(
+                f"{operation.value!r} cannot be written, since it represents an unwritten register: "
+                "pass another `nothing` to the Recorder"
+            )
+        return f"write {self._values.number_of(operation.value)} {self._format_clock(replica, operation.stamp)}"
+
+    def _format_addition(self, replica: int, operation: Operation) -> str:
+        return f"add {self._values.number_of(operation.value)} {self._format_key(replica, operation)}"
+
+    def _format_removal(self, replica: int, operation: Operation) -> str:
+        if self.kind == "rga":
+            return f"remove {self._values.number_of(operation.value)}"
+        return f"remove {self._values.number_of(operation.value)} {self._format_key(replica, operation)}"
+
+    def _format_insertion(self, replica: int, operation: Operation) -> str:
+        anchor = 0 if operation.anchor is None else self._values.number_of(operation.anchor)
+        element = self._values.number_of(operation.value)
+        return f"after {anchor} {element} {self._format_clock(replica, operation.stamp)}"
+
+    def _format_key(self, replica: int, operation: Operation) -> str:
+        """Formats the stamp of an LWW set's update, or the identifiers of an OR-Set's update."""
+        if self.kind == "lwwset":
+            return self._format_clock(replica, operation.stamp)
+        return "#" + _join_numbers(_sort_unique(operation.identifiers or ()))
+
+    def _format_clock(self, replica: int, stamp: "Stamp | None") -> str:
+        if isinstance(stamp, (tuple, list)) and len(stamp) == 2:
+            clock, issuer = stamp
+            if self.replicas.index_of(issuer) != replica:
+                raise NotRepresentable(
+                    f"the stamp {stamp!r} names another replica: expected {self.replicas.keys[replica]!r}"
+                )
+            return f"@{self._clocks.number_of(clock)}"
+        if stamp is None:
+            raise NotRepresentable(
+                "the stamp is missing: pass the clock of the update, or the clock and the replica"
+            )
+        return f"@{self._clocks.number_of(stamp)}"
+
+    def _format_result(self, value: Any) -> str:
+        if self.kind == "counter":
+            is_whole = isinstance(value, int) and not isinstance(value, bool)
+            if not is_whole or not MIN_COUNT <= value <= MAX_COUNT:
+                raise NotRepresentable(
+                    f"a counter's read returned {value!r}: expected a whole number from {MIN_COUNT} to {MAX_COUNT}"
+                )
+            return str(int(value))
+        if self.kind == "register":
+            return "none" if _are_equal(value, self._nothing) else str(self._values.number_of(value))
+        try:
+            elements = iter(value)
+        except TypeError:
+            raise NotRepresentable(
+                f"a read returned {value!r}: expected a list or another iterable of the elements"
+            ) from None
+        numbers = [self._values.number_of(it) for it in elements]
+        return _join_numbers(numbers if self.kind == "rga" else _sort_unique(numbers))
+
+    # Descriptions of lines in the user's names.
+
+    def describe(self, line: str, describe_label: Callable[[int], str]) -> str:
+        """Describes a line. `describe_label` describes the label of a delivery."""
+        name, word, *fields = line.split(" ")
+        if is_join(line):
+            return f"{self.replicas.key_of(word)!r} joins with a copy of {self.replicas.key_of(fields[0])!r}"
+        has_clock = fields[-1:] and fields[-1][0] == "@"
+        clock = f" at clock {self._clocks.clock_of(int(fields.pop()[1:]))}" if has_clock else ""
+        command = self._describe_command(word, fields, describe_label)
+        return f"{self.replicas.key_of(name)!r} {command}{clock}"
+
+    def _describe_command(self, word: str, fields: List[str], describe_label: Callable[[int], str]) -> str:
+        if word == "got":
+            return f"receives {describe_label(int(fields[0]))}"
+        if word == "read":
+            return f"reads {self._describe_result(fields[0])}"
+        if word == "after":
+            anchor = "at the beginning" if fields[0] == "0" else f"behind {self._values.thing_of(int(fields[0]))!r}"
+            return f"inserts {self._values.thing_of(int(fields[1]))!r} {anchor}"
+        if word in ("inc", "dec"):
+            return {"inc": "increments", "dec": "decrements"}[word]
+        verb = {"write": "writes", "add": "adds", "remove": "removes"}[word]
+        under = f" under {self._describe_identifiers(fields[1][1:])}" if len(fields) > 1 else ""
+        return f"{verb} {self._values.thing_of(int(fields[0]))!r}{under}"
+
+    def _describe_result(self, result: str) -> str:
+        if self.kind == "counter":
+            return result
+        if self.kind == "register":
+            return repr(self._nothing if result == "none" else self._values.thing_of(int(result)))
+        return "[" + ", ".join(repr(self._values.thing_of(it)) for it in _parse_numbers(result)) + "]"
+
+    def _describe_identifiers(self, identifiers: str) -> str:
+        things = (self.identifiers.thing_of(it) for it in _parse_numbers(identifiers))
+        return ", ".join("an unnamed one" if it is None else repr(it) for it in things) or "none"
+
+
+def is_join(line: str) -> bool:
+    """Returns whether a replica joins in this line, which then begins with no name."""
+    return line.startswith("join ")
+
+
+def is_operation(line: str) -> bool:
+    """Returns whether the line reports an operation, which becomes a label."""
+    return not is_join(line) and line.split(" ", 2)[1] != "got"
+
+
+def _join_numbers(numbers: Iterable[int]) -> str:
+    return ",".join(map(str, numbers)) or "-"
+
+
+def _sort_unique(numbers: Collection[Any]) -> Collection[int]:
+    return sorted(set(numbers)) if len(numbers) > 1 else numbers
+
+
+def _parse_numbers(text: str) -> List[int]:
+    return [] if text == "-" else [int(it) for it in text.split(",")]
+
+
+def _are_equal(one: Any, other: Any) -> bool:
+    return one is other or (type(one) is type(other) and bool(one == other))
