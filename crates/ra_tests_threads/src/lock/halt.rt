@@ -1,15 +1,14 @@
 //! A halt inside a step: it signals its arrival, and waits until it may proceed.
 
 use std::alloc::Global;
-use std::hint;
 use std::process::Abort;
 use std::sync::Arc;
 use std::sync::atomic::{AtomicU64, Ordering};
+use std::thread;
 
-// The number of times that one side looks for the other, in turns of `LOOKS` loads.
-const MOST_TURNS: u32 = 1_000_000;
-
-const LOOKS: u32 = 64;
+// The number of times that one side looks for the other and yields its processor: 12 seconds on an idle machine, so
+// that they run out only where the other side never arrives, and not where a busy machine starts its thread late.
+const MOST_LOOKS: u32 = 50_000_000;
 
 /// A flag that threads share.
 pub type Flag = Arc<AtomicU64, Global>;
@@ -37,13 +36,11 @@ pub fn raise(flag: &AtomicU64) {
 
 /// Waits until the flag is raised, for a bounded time. Returns `true` if it was raised.
 pub fn is_raised_in_time(flag: &AtomicU64) -> bool {
-    for _ in 0..MOST_TURNS {
-        for _ in 0..LOOKS {
-            if flag.load(Ordering::SeqCst) > 0 {
-                return true;
-            }
+    for _ in 0..MOST_LOOKS {
+        if flag.load(Ordering::SeqCst) > 0 {
+            return true;
         }
-        hint::spin_loop();
+        thread::yield_now();
     }
     false
 }
