@@ -13,8 +13,8 @@ fn did(replica: u8, op: Op) -> Command {
     }
 }
 
-/// Reports a history in which replica 1 reads its counter twice. One increment was delivered to it both times, and the
-/// second answer is 5.
+/// Reports a history in which replica 1 reads its counter twice. One increment was delivered to it before both
+/// reads, and the second answer is 5.
 pub fn tell(rt: &HostRuntime) -> Result<()> {
     match Reporter::new(rt.alloc(), Kind::Counter, 2, 100) {
         Ok(mut reporter) => tell_all(rt, &mut reporter),

@@ -148,7 +148,9 @@ delivery_refusal_at records to label = first_of (
 -- the first reason to reject a delivery, in the fixed order of the reasons
 abbrev pub refusal_of_delivery : ℕ → Records → ℕ → ℕ → Option Refusal
 refusal_of_delivery replicas records to label =
-    first_of (when (not (nat_lt to (replica_count replicas records))) UnknownReplica ∷ delivery_refusal_at records to label ∷ [])
+    first_of
+    (when (not (nat_lt to (replica_count replicas records))) UnknownReplica
+    ∷ delivery_refusal_at records to label ∷ [])
 
 -- the first reason to reject a join, in the fixed order of the reasons
 abbrev pub refusal_of_join : ℕ → Records → ℕ → ℕ → Option Refusal

@@ -16,7 +16,8 @@ pub record History : Type 0 where
   pub records : Records
 
 abbrev pub history_of : Kind → ℕ → Records → History
-history_of kind initial_replicas records = record { kind = kind; initial_replicas = initial_replicas; records = records }
+history_of kind initial_replicas records =
+    record { kind = kind; initial_replicas = initial_replicas; records = records }
 
 -- the history in which nothing is accepted yet
 abbrev pub empty_history : Kind → ℕ → History

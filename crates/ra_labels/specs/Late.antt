@@ -11,7 +11,9 @@ insert_past_greater below x (entry ∷ list) =
 abbrev pub insert_late_after : (ℕ → ℕ → Bool) → ℕ → ℕ → List (ℕ × Bool) → List (ℕ × Bool)
 insert_late_after below anchor x [] = []
 insert_late_after below anchor x (entry ∷ list) =
-    if anchor == entry.0 then entry ∷ insert_past_greater below x list else entry ∷ insert_late_after below anchor x list
+    if anchor == entry.0
+    then entry ∷ insert_past_greater below x list
+    else entry ∷ insert_late_after below anchor x list
 
 -- the entries of the elements that are kept
 abbrev pub kept_entries : (ℕ → Bool) → List (ℕ × Bool) → List (ℕ × Bool)

@@ -134,7 +134,8 @@ WasIssuedAfterDelivery records n m =
 -- holds if label n was new to the replica, and all that n sees had been delivered to the replica
 abbrev pub IsCausalDelivery : Records → ℕ → ℕ → Type 0
 IsCausalDelivery before replica n =
-    (has_delivered before replica n ≡ false) × ((m : ℕ) → sees before n m ≡ true → has_delivered before replica m ≡ true)
+    (has_delivered before replica n ≡ false)
+    × ((m : ℕ) → sees before n m ≡ true → has_delivered before replica m ≡ true)
 
 -- holds if label n is an update that is new to the replica
 abbrev pub IsNewUpdate : Records → ℕ → ℕ → Type 0

@@ -35,7 +35,8 @@ has_delivered (Operate by op clock ∷ before) replica n =
     (by == replica && n == label_count before && is_update op) || has_delivered before replica n
 has_delivered (Deliver to label ∷ before) replica n =
     (to == replica && n == label && is_update_at before n) || has_delivered before replica n
-has_delivered (Join joined from ∷ before) replica n = (joined == replica && has_delivered before from n) || has_delivered before replica n
+has_delivered (Join joined from ∷ before) replica n =
+    (joined == replica && has_delivered before from n) || has_delivered before replica n
 has_delivered (_ ∷ before) replica n = has_delivered before replica n
 
 -- `true` if label n sees label m: m was delivered to n's replica before the replica issued n
@@ -48,7 +49,8 @@ sees (_ ∷ before) n m = sees before n m
 abbrev pub IsCausal : Records → Type 0
 IsCausal [] = Unit {0}
 IsCausal (Deliver to label ∷ before) =
-    (has_delivered before to label ≡ false) × ((m : ℕ) → sees before label m ≡ true → has_delivered before to m ≡ true) × IsCausal before
+    (has_delivered before to label ≡ false) × ((m : ℕ) → sees before label m ≡ true → has_delivered before to m ≡ true)
+    × IsCausal before
 IsCausal (_ ∷ before) = IsCausal before
 
 -- `true` if label n sees label m, and m was not delivered to the replica

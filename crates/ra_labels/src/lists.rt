@@ -15,6 +15,8 @@ pub fn rises_iff_sorted()
 /// Theorem: `have_same_elements` holds of two lists exactly if each element of one is in the other. Two strictly
 /// increasing lists with the same elements are equal.
 pub fn have_same_elements_iff()
-    ensures elements { (xs ys : List ℕ) → (have_same_elements xs ys ≡ true) ↔ ((x : ℕ) → Contains xs x ↔ Contains ys x) }
-    ensures rising { (xs ys : List ℕ) → rises xs ≡ true → rises ys ≡ true → (have_same_elements xs ys ≡ true) ↔ (xs ≡ ys) }
+    ensures elements { (xs ys : List ℕ) → (have_same_elements xs ys ≡ true)
+        ↔ ((x : ℕ) → Contains xs x ↔ Contains ys x) }
+    ensures rising { (xs ys : List ℕ) → rises xs ≡ true → rises ys ≡ true → (have_same_elements xs ys ≡ true)
+        ↔ (xs ≡ ys) }
 {}

@@ -25,7 +25,8 @@ history_in setup records = history_of setup.kind setup.replicas records
 
 -- the past after a command
 abbrev pub history_after : History → Command → History
-history_after past command = history_of past.kind past.initial_replicas (records_after past.kind past.initial_replicas past.records command)
+history_after past command =
+    history_of past.kind past.initial_replicas (records_after past.kind past.initial_replicas past.records command)
 
 -- holds if the command is added to the records
 abbrev pub JoinsRecords : History → Command → Type 0
@@ -53,11 +54,13 @@ pub record Represents (history : TrackedHistory) (past : History) : Type 0 where
 -- holds if the reply is the answer to the command, and the history represents the past after the command
 abbrev pub IsAnswered : TrackedHistory → History → Command → Reply → Type 0
 IsAnswered history past command reply =
-    (reply ≡ answer_of past.kind past.initial_replicas past.records command) × Represents history (history_after past command)
+    (reply ≡ answer_of past.kind past.initial_replicas past.records command)
+    × Represents history (history_after past command)
 
 -- Holds if the label comes next after a past without a fault and is accepted: the tracker has it already, and the label
 -- count, the witness and the set of unique keys do not have it yet.
-pub record HasNewest (history : TrackedHistory) (past : History) (next : NextOperation) (label : Label) (brought : UniqueKey)
+pub record HasNewest (history : TrackedHistory) (past : History) (next : NextOperation) (label : Label)
+    (brought : UniqueKey)
     : Type 0 where
   pub tracker : IsVisibilityOf history.tracker.now (history_with past (operate next))
   pub causal : IsCausal past.records

@@ -197,7 +197,8 @@ impl TrackedHistory {
 
     // Returns the first reason to reject a join, if any.
     fn refusal_of_join(&self, replica: u8, from: u8) -> Option<Refusal>
-        ensures first { (initial_replicas : ℕ) (records : Records) → self.now.replicas ≡ replica_count initial_replicas records
+        ensures first { (initial_replicas : ℕ) (records : Records)
+            → self.now.replicas ≡ replica_count initial_replicas records
             → refusal_of_join initial_replicas records replica from ≡ result }
         ensures few { result ≡ None → self.now.replicas < MOST_REPLICAS }
     {

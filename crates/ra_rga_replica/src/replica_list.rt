@@ -288,7 +288,8 @@ impl ReplicaList {
             → AreEditsOf all.now.arrivals edits records
             → (held : IsListBy self.old all.now.arrivals edits records has_delivered)
             → edit_at edits label ≡ Some (Removes number) → has_delivered label ≡ false
-            → IsListWithAfter self.new.state self.new.marks self.new.waiting all.now.arrivals edits records has_delivered
+            → IsListWithAfter self.new.state self.new.marks self.new.waiting all.now.arrivals edits records
+            has_delivered
             held.settled label steps) }
         ensures steps { IfOk result (λ steps. steps ≤ 1) }
         ensures counted { IfOk result (λ steps. steps ≡ (if is_marked self.old.marks number then 1 else 0)) }

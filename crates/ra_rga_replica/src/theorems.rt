@@ -47,7 +47,8 @@ pub fn list_unchanged_by_others()
 /// Theorem: the list of a replica is also that of a new replica that joins from it.
 pub fn join_copies_list()
     ensures { (list : ReplicaList) (arrivals : List Arrival) (edits : List (Option Edit)) (initial_replicas : ℕ)
-        (records : Records) (from : ℕ) → NoneDeliveredBeyond initial_replicas records → IsListOf list arrivals edits records from
+        (records : Records) (from : ℕ) → NoneDeliveredBeyond initial_replicas records
+        → IsListOf list arrivals edits records from
         → let joined = replica_count initial_replicas records in
         IsListOf list arrivals edits (Join joined from ∷ records) joined }
 {}

@@ -87,7 +87,8 @@ pub record IsVisibilityOf (tracked : Tracked) (past : History) : Type 0 where
   pub replicas : replicas_in tracked ≡ replicas_of past
   pub labels : labels_in tracked ≡ label_count past.records
   pub updates : (n : ℕ) → is_update_in tracked n ≡ is_update_at past.records n
-  pub had : (replica n : ℕ) → replica < replicas_in tracked → has_delivered_in tracked replica n ≡ has_delivered past.records replica n
+  pub had : (replica n : ℕ) → replica < replicas_in tracked
+      → has_delivered_in tracked replica n ≡ has_delivered past.records replica n
   pub sees : (n m : ℕ) → n < labels_in tracked → sees_in tracked n m ≡ sees past.records n m
   -- the replica of each label, and how many updates it had issued before
   pub issuer : (n : ℕ) → n < labels_in tracked → (row_at tracked n).replica ≡ issuer_of past.records n

@@ -33,7 +33,8 @@ pub trait NamedOrder: Drop + Send {
     /// Returns the position of the next label, and whether all labels that must precede it stand before it. Does not
     /// allocate.
     fn place(&self, label: &Label, seen: &Seen<'_>) -> Place
-        ensures { (past : History) (next : NextOperation) → stands_for self.now past → ComesNext past next label.now seen.now
+        ensures { (past : History) (next : NextOperation) → stands_for self.now past
+            → ComesNext past next label.now seen.now
             → IsPlaceOf past.kind past.records next result };
 
     /// Reserves room for one more label. The order does not change.

@@ -34,13 +34,15 @@ pub record IsLastOn (writes : List (Option Written)) (records : Records) (replic
   pub found : write_at writes n ≡ Some write
   pub on : write.on ≡ element
   pub above : (other : Label) (lesser : Written) → Contains (labels_of records) other
-      → has_delivered records replica other.number ≡ true → write_at writes other.number ≡ Some lesser → lesser.on ≡ element
+      → has_delivered records replica other.number ≡ true → write_at writes other.number ≡ Some lesser
+      → lesser.on ≡ element
       → (other.number ≡ n) ⊎ IsStampBelow lesser.stamp write.stamp
 
 -- holds if no label delivered to the replica updates the element with this number
 abbrev pub NoneIsOn : List (Option Written) → Records → ℕ → ℕ → Type 0
 NoneIsOn writes records replica element = (label : Label) (write : Written) → Contains (labels_of records) label
-    → has_delivered records replica label.number ≡ true → write_at writes label.number ≡ Some write → ¬ (write.on ≡ element)
+    → has_delivered records replica label.number ≡ true → write_at writes label.number ≡ Some write
+    → ¬ (write.on ≡ element)
 
 -- holds if the list has, for each replica and element, the last label on it, and none if there is no such label
 pub record AreLastOf (writes : List (Option Written)) (lasts : List (List (Option ℕ)))

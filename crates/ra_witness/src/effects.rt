@@ -69,10 +69,12 @@ impl Effects {
     /// The first condition that fails with the label, apart from the order.
     pub fn check(&self, label: &Label, parts: Parts) -> Result<Option<Update>, Cause>
         requires { MayMeet self.now label.now (acts_in parts) }
-        ensures cause { (past : History) (next : NextOperation) → AreEffectsOf self.now past → IsOffered past next label.now
+        ensures cause { (past : History) (next : NextOperation) → AreEffectsOf self.now past
+            → IsOffered past next label.now
             → acts_in parts ≡ acts_of next.op
             → IfErr result (λ cause. Some cause ≡ cause_of past.kind (operate next ∷ past.records)) }
-        ensures none { (past : History) (next : NextOperation) → AreEffectsOf self.now past → IsOffered past next label.now
+        ensures none { (past : History) (next : NextOperation) → AreEffectsOf self.now past
+            → IsOffered past next label.now
             → acts_in parts ≡ acts_of next.op
             → OnOk result (None ≡ cause_of past.kind (operate next ∷ past.records)) }
         ensures update { IfOk result (λ update. option_to_list update ≡ updates_in (acts_in parts)) }
@@ -103,13 +105,15 @@ impl Effects {
     /// `NoMemory` if allocation fails; the same history is represented.
     pub fn add(&mut self, label: &Label, update: Option<Update>) -> Result<u64, NoMemory>
         requires { MayAdd self.old label.now update }
-        ensures taken { (past : History) (next : NextOperation) → AreEffectsOf self.old past → IsOffered past next label.now
+        ensures taken { (past : History) (next : NextOperation) → AreEffectsOf self.old past
+            → IsOffered past next label.now
             → updates_admitted past.kind (named_sequence past.kind (operate next ∷ past.records)) ≡ true
             → update ≡ update_in next.op → OnOk result (AreEffectsOf self.new (history_with past (operate next))) }
         ensures step { IfOk result (λ steps. steps ≤ 1) }
         ensures counted { (past : History) → AreEffectsOf self.old past → ¬ (past.kind ≡ kinds.Rga)
             → IfOk result (λ steps. steps ≡ steps_of update) }
-        ensures settled { (past : History) (next : NextOperation) → AreEffectsOf self.old past → IsOffered past next label.now
+        ensures settled { (past : History) (next : NextOperation) → AreEffectsOf self.old past
+            → IsOffered past next label.now
             → updates_admitted past.kind (named_sequence past.kind (operate next ∷ past.records)) ≡ true
             → past.kind ≡ kinds.Rga → IfOk result (SettlesMore past.records (operate next) next.by) }
         ensures same { (past : History) → AreEffectsOf self.old past → OnErr result (AreEffectsOf self.new past) }
@@ -202,7 +206,8 @@ impl Effects {
 // Adds the next label of a register or an LWW set.
 fn add_write(kept: &mut Overriding, label: &Label, update: Option<Update>) -> Result<u64, NoMemory>
     requires { MayWrite kept.old label.now update }
-    ensures taken { (past : History) (next : NextOperation) → IsOverridingOf kept.old past → IsOffered past next label.now
+    ensures taken { (past : History) (next : NextOperation) → IsOverridingOf kept.old past
+        → IsOffered past next label.now
         → update ≡ update_in next.op → OnOk result (IsOverridingOf kept.new (history_with past (operate next))) }
     ensures counted { IfOk result (λ steps. steps ≡ steps_of update) }
     ensures same { (past : History) → IsOverridingOf kept.old past → OnErr result (IsOverridingOf kept.new past) }

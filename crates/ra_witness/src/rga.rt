@@ -65,8 +65,10 @@ impl Rga {
     pub fn cause(&self, label: &Label, parts: &Parts) -> Option<Cause>
         requires replica { label.now.replica < vec_len self.now.lists }
         requires rising { list_all asks_rising (queries_in (acts_in parts.now)) ≡ true }
-        ensures { (initial_replicas : ℕ) (records : Records) (next : NextOperation) → IsRgaOf self.now initial_replicas records
-            → IsOffered (history_of kinds.Rga initial_replicas records) next label.now → acts_in parts.now ≡ acts_of next.op
+        ensures { (initial_replicas : ℕ) (records : Records) (next : NextOperation)
+            → IsRgaOf self.now initial_replicas records
+            → IsOffered (history_of kinds.Rga initial_replicas records) next label.now
+            → acts_in parts.now ≡ acts_of next.op
             → result ≡ cause_of kinds.Rga (operate next ∷ records) }
     {
         match &label.op {
@@ -80,7 +82,8 @@ impl Rga {
 
     // Returns `true` exactly if the insertion is admitted: its anchor has a smaller stamp, and its element is new.
     fn admits_insertion(&self, anchor: u32, element: u32, stamp: Option<Stamp>) -> bool
-        ensures { (initial_replicas : ℕ) (records : Records) (next : NextOperation) (label : Label) → IsRgaOf self.now initial_replicas records
+        ensures { (initial_replicas : ℕ) (records : Records) (next : NextOperation) (label : Label)
+            → IsRgaOf self.now initial_replicas records
             → IsOffered (history_of kinds.Rga initial_replicas records) next label → next.op ≡ ops.After anchor element
             → label.stamp ≡ stamp → IsTrue result
             ↔ (updates_admitted kinds.Rga (named_sequence kinds.Rga (operate next ∷ records)) ≡ true) }
@@ -98,7 +101,8 @@ impl Rga {
     // one, and is not the root.
     fn admits_removal(&self, replica: u8, element: u32) -> bool
         requires { replica < vec_len self.now.lists }
-        ensures { (initial_replicas : ℕ) (records : Records) (next : NextOperation) (label : Label) → IsRgaOf self.now initial_replicas records
+        ensures { (initial_replicas : ℕ) (records : Records) (next : NextOperation) (label : Label)
+            → IsRgaOf self.now initial_replicas records
             → IsOffered (history_of kinds.Rga initial_replicas records) next label → next.by ≡ replica
             → next.op ≡ ops.RgaRemove element → IsTrue result
             ↔ (updates_admitted kinds.Rga (named_sequence kinds.Rga (operate next ∷ records)) ≡ true) }
@@ -115,7 +119,8 @@ impl Rga {
         requires replica { replica < vec_len self.now.lists }
         requires rising { list_all asks_rising (queries_in (acts_in parts.now)) ≡ true }
         ensures { (initial_replicas : ℕ) (records : Records) → IsRgaOf self.now initial_replicas records
-            → result ≡ cause_in (state_after kinds.Rga (delivered_updates kinds.Rga records replica)) (acts_in parts.now) }
+            → result
+            ≡ cause_in (state_after kinds.Rga (delivered_updates kinds.Rga records replica)) (acts_in parts.now) }
     {
         queries::cause_if_any(self.lists[replica as usize].state(), parts)
     }
@@ -127,7 +132,8 @@ impl Rga {
     /// `NoMemory` if allocation fails; the same history is represented.
     pub fn add(&mut self, label: &Label) -> Result<u64, NoMemory>
         requires { MayGrow self.old label.now }
-        ensures taken { (initial_replicas : ℕ) (records : Records) (next : NextOperation) → IsRgaOf self.old initial_replicas records
+        ensures taken { (initial_replicas : ℕ) (records : Records) (next : NextOperation)
+            → IsRgaOf self.old initial_replicas records
             → IsOffered (history_of kinds.Rga initial_replicas records) next label.now
             → updates_admitted kinds.Rga (named_sequence kinds.Rga (operate next ∷ records)) ≡ true
             → IfOk result (λ steps. IsRgaOf self.new initial_replicas (operate next ∷ records)
@@ -155,7 +161,8 @@ impl Rga {
         requires stamp { IsSome label.now.stamp }
         requires known { (n : ℕ) × (n < length self.old.all.arrivals) × (element_at self.old.all.arrivals n ≡ anchor) }
         requires new { (n : ℕ) → n < length self.old.all.arrivals → ¬ (element_at self.old.all.arrivals n ≡ element) }
-        ensures taken { (initial_replicas : ℕ) (records : Records) (next : NextOperation) → IsRgaOf self.old initial_replicas records
+        ensures taken { (initial_replicas : ℕ) (records : Records) (next : NextOperation)
+            → IsRgaOf self.old initial_replicas records
             → IsOffered (history_of kinds.Rga initial_replicas records) next label.now
             → updates_admitted kinds.Rga (named_sequence kinds.Rga (operate next ∷ records)) ≡ true
             → next.op ≡ ops.After anchor element
@@ -185,10 +192,12 @@ impl Rga {
         requires room { vec_len self.old.edits < vec_capacity self.old.edits }
         requires replica { label.now.replica < vec_len self.old.lists }
         requires known { (n : ℕ) × (n < length self.old.all.arrivals) × (element_at self.old.all.arrivals n ≡ element) }
-        ensures taken { (initial_replicas : ℕ) (records : Records) (next : NextOperation) → IsRgaOf self.old initial_replicas records
+        ensures taken { (initial_replicas : ℕ) (records : Records) (next : NextOperation)
+            → IsRgaOf self.old initial_replicas records
             → IsOffered (history_of kinds.Rga initial_replicas records) next label.now
             → updates_admitted kinds.Rga (named_sequence kinds.Rga (operate next ∷ records)) ≡ true
-            → next.op ≡ ops.RgaRemove element → IfOk result (λ steps. IsRgaOf self.new initial_replicas (operate next ∷ records)
+            → next.op ≡ ops.RgaRemove element
+            → IfOk result (λ steps. IsRgaOf self.new initial_replicas (operate next ∷ records)
             × SettlesMore records (operate next) next.by steps) }
         ensures step { IfOk result (λ steps. steps ≤ 1) }
         ensures same { (initial_replicas : ℕ) (records : Records) → IsRgaOf self.old initial_replicas records
@@ -238,7 +247,8 @@ impl Rga {
         requires { from < vec_len self.old.lists }
         ensures joined { (initial_replicas : ℕ) (records : Records) → IsRgaOf self.old initial_replicas records
             → IsJoinedFrom (history_of kinds.Rga initial_replicas records) from
-            → OnOk result (IsRgaOf self.new initial_replicas (Join (replica_count initial_replicas records) from ∷ records)) }
+            → OnOk result
+            (IsRgaOf self.new initial_replicas (Join (replica_count initial_replicas records) from ∷ records)) }
         ensures same { (initial_replicas : ℕ) (records : Records) → IsRgaOf self.old initial_replicas records
             → OnErr result (IsRgaOf self.new initial_replicas records) }
     {

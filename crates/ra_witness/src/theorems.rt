@@ -116,7 +116,8 @@ pub fn last_labels_after_label()
     ensures query_lasts { (writes : List (Option Written)) (lasts : List (List (Option ℕ))) (records : Records)
         (next : NextOperation) → updates_written writes ≡ updates_by_number records → AreLastOf writes lasts records
         → AreLastOf (writes ++ None ∷ []) lasts (operate next ∷ records) }
-    ensures writes { (kind : Kind) (writes : List (Option Written)) (number_of : ℕ → Option ℕ) (count : ℕ) (next : NextOperation)
+    ensures writes { (kind : Kind) (writes : List (Option Written)) (number_of : ℕ → Option ℕ) (count : ℕ)
+        (next : NextOperation)
         (records : Records) (write : Written) → IsByTimestamp kind
         → updates_written writes ≡ updates_by_number records → AreWritesOf writes number_of records
         → AreBelow number_of count → IsNextWrite write number_of count next

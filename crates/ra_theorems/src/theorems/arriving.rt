@@ -95,7 +95,8 @@ pub fn new_label_in_full_list()
         → below x y ≡ is_lt (label_cmp Rga now (label_of records next) other))
         → all_now ≡ insert_late_after below anchor x all }
     ensures removal { (records : Records) (next : NextOperation) (x : ℕ) (all all_now : List (ℕ × Bool))
-        → HasUpdate next.op (RgaRemove x) → state_after Rga (updates_of (named_sequence Rga records)) ≡ Some (Listed all)
+        → HasUpdate next.op (RgaRemove x)
+        → state_after Rga (updates_of (named_sequence Rga records)) ≡ Some (Listed all)
         → state_after Rga (updates_of (named_sequence Rga (operate next ∷ records))) ≡ Some (Listed all_now)
         → all_now ≡ hide x all }
 {}

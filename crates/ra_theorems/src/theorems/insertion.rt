@@ -81,8 +81,10 @@ pub fn delivery_extends_delivered()
         → Contains (labels_of records) label → HasUpdate label.op update → has_delivered records to label.number ≡ false
         → let now = Deliver to label.number ∷ records in (before behind : List Label)
         × (named_labels kind records ≡ before ++ label ∷ behind)
-        × (delivered_updates kind records to ≡ delivered_updates_of records to before ++ delivered_updates_of records to behind)
-        × (delivered_updates kind now to ≡ delivered_updates_of records to before ++ update ∷ delivered_updates_of records to behind) }
+        × (delivered_updates kind records to
+        ≡ delivered_updates_of records to before ++ delivered_updates_of records to behind)
+        × (delivered_updates kind now to
+        ≡ delivered_updates_of records to before ++ update ∷ delivered_updates_of records to behind) }
     ensures order { (kind : Kind) (records : Records) (to n : ℕ)
         → named_labels kind (Deliver to n ∷ records) ≡ named_labels kind records }
     ensures others { (kind : Kind) (records : Records) (to n replica : ℕ) → ¬ (to ≡ replica)

@@ -18,11 +18,13 @@ pub fn nothing_delivered_before_join()
     ensures operation { (initial_replicas : ℕ) (records : Records) (next : NextOperation)
         → next.by < replica_count initial_replicas records → NoneDeliveredBeyond initial_replicas records
         → NoneDeliveredBeyond initial_replicas (operate next ∷ records) }
-    ensures delivery { (initial_replicas : ℕ) (records : Records) (to n : ℕ) → to < replica_count initial_replicas records
+    ensures delivery { (initial_replicas : ℕ) (records : Records) (to n : ℕ)
+        → to < replica_count initial_replicas records
         → NoneDeliveredBeyond initial_replicas records → NoneDeliveredBeyond initial_replicas (Deliver to n ∷ records) }
     ensures join { (initial_replicas : ℕ) (records : Records) (from : ℕ) → NoneDeliveredBeyond initial_replicas records
         → NoneDeliveredBeyond initial_replicas (Join (replica_count initial_replicas records) from ∷ records) }
-    ensures one { (kind : Kind) (replicas : ℕ) (records : Records) (command : Command) → NoneDeliveredBeyond replicas records
+    ensures one { (kind : Kind) (replicas : ℕ) (records : Records) (command : Command)
+        → NoneDeliveredBeyond replicas records
         → NoneDeliveredBeyond replicas (records_after kind replicas records command) }
     ensures all { (kind : Kind) (replicas : ℕ) (commands : List Command)
         → NoneDeliveredBeyond replicas (records_after_all kind replicas [] commands) }
@@ -32,12 +34,14 @@ pub fn nothing_delivered_before_join()
 /// its source, in the same order. The new replica has issued nothing. The updates of other replicas and the named order
 /// do not change.
 pub fn join_copies_delivered()
-    ensures labels { (initial_replicas : ℕ) (records : Records) (from n : ℕ) → NoneDeliveredBeyond initial_replicas records
+    ensures labels { (initial_replicas : ℕ) (records : Records) (from n : ℕ)
+        → NoneDeliveredBeyond initial_replicas records
         → let joined = replica_count initial_replicas records in
         has_delivered (Join joined from ∷ records) joined n ≡ has_delivered records from n }
     ensures issued { (initial_replicas : ℕ) (records : Records) → NoneDeliveredBeyond initial_replicas records
         → updates_issued records (replica_count initial_replicas records) ≡ 0 }
-    ensures own { (kind : Kind) (initial_replicas : ℕ) (records : Records) (from : ℕ) → NoneDeliveredBeyond initial_replicas records
+    ensures own { (kind : Kind) (initial_replicas : ℕ) (records : Records) (from : ℕ)
+        → NoneDeliveredBeyond initial_replicas records
         → let joined = replica_count initial_replicas records in
         delivered_updates kind (Join joined from ∷ records) joined ≡ delivered_updates kind records from }
     ensures others { (kind : Kind) (records : Records) (joined from replica : ℕ) → ¬ (joined ≡ replica)

@@ -34,10 +34,12 @@ pub fn delivery_is_one_step()
         → state_after Counter (delivered_updates Counter (Deliver to label.number ∷ records) to)
         ≡ then_step (state_after Counter (delivered_updates Counter records to)) update }
     ensures register { (records : Records) (to : ℕ) (label : Label) (value last : ℕ)
-        → Contains (labels_of records) label → HasUpdate label.op (Write value) → has_delivered records to label.number ≡ false
+        → Contains (labels_of records) label → HasUpdate label.op (Write value)
+        → has_delivered records to label.number ≡ false
         → let now = delivered_updates Register (Deliver to label.number ∷ records) to in is_admitted Register now ≡ true
         → last_written now ≡ Some last
-        → state_after Register now ≡ then_step (state_after Register (delivered_updates Register records to)) (Write last) }
+        → state_after Register now
+        ≡ then_step (state_after Register (delivered_updates Register records to)) (Write last) }
     ensures lww_set { (records : Records) (to : ℕ) (label : Label) (update last : Update) (x : ℕ)
         → Contains (labels_of records) label → HasUpdate label.op update → has_delivered records to label.number ≡ false
         → let now = delivered_updates LwwSet (Deliver to label.number ∷ records) to in is_admitted LwwSet now ≡ true

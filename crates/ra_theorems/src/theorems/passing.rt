@@ -49,7 +49,8 @@ pub fn delivered_extends_by_one()
     ensures delivery { (records : Records) (to n m : ℕ) → is_update_at records n ≡ true
         → has_delivered (Deliver to n ∷ records) to m ≡ or_label (has_delivered records to) n m }
     ensures operation { (records : Records) (next : NextOperation) (m : ℕ) → is_update next.op ≡ true
-        → has_delivered (operate next ∷ records) next.by m ≡ or_label (has_delivered records next.by) (label_count records) m }
+        → has_delivered (operate next ∷ records) next.by m
+        ≡ or_label (has_delivered records next.by) (label_count records) m }
 {}
 
 /// Theorem: a later command does not change the updates of the labels that pass, if its own label does not pass.

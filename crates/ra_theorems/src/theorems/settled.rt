@@ -40,7 +40,8 @@ pub fn settled_updates_admitted()
 /// ones wait.
 pub fn settled_not_pending()
     ensures { (records : Records) (had settled : ℕ → Bool) → IsSettled records had settled
-        ↔ (((n : ℕ) → settled n ≡ true → had n ≡ true) × NonePending records settled × OthersPending records had settled) }
+        ↔ (((n : ℕ) → settled n ≡ true → had n ≡ true)
+        × NonePending records settled × OthersPending records had settled) }
 {}
 
 /// Theorem: the settled labels stay the same after the delivery of one that waits. They also stay for later records
@@ -67,7 +68,8 @@ pub fn settled_persists()
 pub fn pending_updates_settle()
     ensures starts { (records : Records) (had settled : ℕ → Bool) (label : Label) (update : Update)
         → Contains (labels_of records) label → HasUpdate label.op update → had label.number ≡ false
-        → IsSettled records had settled → is_present_element (dependency_of update) (updates_passing Rga records settled) ≡ true
+        → IsSettled records had settled
+        → is_present_element (dependency_of update) (updates_passing Rga records settled) ≡ true
         → IsSettling records (or_label had label.number) (or_label settled label.number) (elements_inserted_by update) }
     ensures follows { (records : Records) (had passes : ℕ → Bool) (arrived : List ℕ) (label : Label) (update : Update)
         → IsSettling records had passes arrived → Contains (labels_of records) label → HasUpdate label.op update
@@ -80,7 +82,8 @@ pub fn pending_updates_settle()
         → IsSettling records had passes (first ++ later) }
     ensures ends { (records : Records) (had passes : ℕ → Bool) → IsSettling records had passes []
         → IsSettled records had passes }
-    ensures element { (x : ℕ) (update : Update) → Contains (elements_inserted_by update) x ↔ (inserts_element x update ≡ true) }
+    ensures element { (x : ℕ) (update : Update) → Contains (elements_inserted_by update) x
+        ↔ (inserts_element x update ≡ true) }
 {}
 
 /// Theorem: the delivered labels determine which labels with an update are settled.

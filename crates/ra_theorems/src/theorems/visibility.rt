@@ -9,7 +9,8 @@ ghost use Rattle.ra_labels.specs.TheoremTerms.{WasIssuedAt, WasDeliveredTo, WasD
 /// with it.
 pub fn delivered_cases()
     ensures { (records : Records) (replica n : ℕ) → (has_delivered records replica n ≡ true)
-        ↔ (WasIssuedAt records replica n ⊎ WasDeliveredTo records replica n ⊎ WasDeliveredBeforeJoin records replica n) }
+        ↔ (WasIssuedAt records replica n ⊎ WasDeliveredTo records replica n
+        ⊎ WasDeliveredBeforeJoin records replica n) }
 {}
 
 /// Theorem: a label sees what had been delivered to its replica when the replica issued it.
@@ -60,7 +61,8 @@ pub fn causal_iff_deliveries_causal()
 /// Theorem: in causal records, all that a delivered label sees was delivered to the replica too, and visibility is
 /// transitive.
 pub fn causal_delivery_transitive()
-    ensures delivered { (records : Records) → IsCausal records → (replica m k : ℕ) → has_delivered records replica m ≡ true
+    ensures delivered { (records : Records) → IsCausal records → (replica m k : ℕ)
+        → has_delivered records replica m ≡ true
         → sees records m k ≡ true → has_delivered records replica k ≡ true }
     ensures sees { (records : Records) → IsCausal records → (n m k : ℕ) → sees records n m ≡ true
         → sees records m k ≡ true → sees records n k ≡ true }

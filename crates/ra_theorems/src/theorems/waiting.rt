@@ -37,7 +37,8 @@ pub fn other_kind_depends_on_root()
 /// pass exactly if the label that inserts it passes.
 pub fn element_present_iff_label_passes()
     ensures list { (updates : List Update) (list : List (ℕ × Bool)) (x : ℕ)
-        → state_after Rga updates ≡ Some (Listed list) → (is_present_element x updates ≡ true) ↔ Contains (elements_in list) x }
+        → state_after Rga updates ≡ Some (Listed list)
+        → (is_present_element x updates ≡ true) ↔ Contains (elements_in list) x }
     ensures label { (records : Records) (passes : ℕ → Bool) (label : Label) (anchor x : ℕ)
         → updates_admitted Rga (named_sequence Rga records) ≡ true → Contains (labels_of records) label
         → HasUpdate label.op (After anchor x)
@@ -80,7 +81,8 @@ pub fn new_update_is_one_step()
         state_after Rga (updates_of (named_sequence Rga records)) ≡ Some (Listed all)
         → Contains (labels_of records) label → HasUpdate label.op (After anchor x) → passes label.number ≡ false
         → is_admitted Rga updates ≡ true → is_present_element anchor updates ≡ true
-        → is_present_element p updates ≡ true → list_all (λ entry. not (is_present_element entry.0 updates)) between ≡ true
+        → is_present_element p updates ≡ true
+        → list_all (λ entry. not (is_present_element entry.0 updates)) between ≡ true
         → state_after Rga (updates_passing Rga records (or_label passes label.number))
         ≡ then_step (state_after Rga updates) (After p x) }
     ensures removal { (records : Records) (passes : ℕ → Bool) (label : Label) (x : ℕ)
