@@ -6,7 +6,7 @@ import shutil
 import subprocess
 
 from assertions import require
-from fake_repository import EXPLAINS, KIT, PROGRAM, SECONDS, TOP, WHOLE, Ran, built, check, unprivileged
+from fake_repository import EXPLAINS, KIT, PROGRAM, RELEASE, SECONDS, TOP, WHOLE, Ran, built, check, unprivileged
 from model import KINDS
 
 BENCH = ("--kind", "rga", "--replicas", "3", "--rounds", "4")
@@ -355,7 +355,8 @@ def the_installed_version_has_the_sums_of_its_programs(repository):
         summed = subprocess.run(["sha256sum", folder / program], capture_output=True, text=True).stdout.split()[0]
         [line] = [it for it in ran.wrote.splitlines() if program in it]
         require(line.startswith(words) and line.endswith(summed), ran)
-    require(ran.wrote.startswith(f"ra_monitor, commit {commit}\n") and f"kit        {KIT}\n" in ran.wrote, ran)
+    require(ran.wrote.startswith(f"ra_monitor {RELEASE}, commit {commit}\n"), ran)
+    require(f"kit        {KIT}\n" in ran.wrote, ran)
 
 
 @check

@@ -26,6 +26,7 @@ bench: left
 other: low
 """
 KIT = "kit of one name"
+RELEASE = (TOP / "VERSION").read_text().strip()
 ALL = ["left", "low", PROGRAM, "right"]
 OF_THE_BENCH = ["bench", WHOLE]
 # A run that has not ended by then is stuck: many times what the longest one takes on a machine that is busy.
@@ -42,7 +43,8 @@ class FakeRepository:
         self.told, self.started = self.folder / "told", []
         self.top.mkdir()
         shutil.copytree(TOP / "tools", self.top / "tools", ignore=shutil.ignore_patterns("__pycache__"))
-        shutil.copy2(TOP / "ra_monitor", self.top / "ra_monitor")
+        for name in ("ra_monitor", "VERSION"):
+            shutil.copy2(TOP / name, self.top / name)
         (self.top / "HANDLES").write_text("Handles allowed: none.\n")
         (self.top / "crates.txt").write_text(CRATES)
         (self.top / "tools" / "lib" / "proof_times").write_text("low 20 # of one job\nleft 30\n")

@@ -50,6 +50,11 @@ def kit():
     return run.stdout.strip()
 
 
+def release(top):
+    """The version of this repository. tests/documents/versions compares each other place that states it."""
+    return (top / "VERSION").read_text().strip()
+
+
 def sum_of(path):
     return hashlib.sha256(path.read_bytes()).hexdigest()
 
