@@ -24,6 +24,7 @@ impl Model for Elements {
 impl Elements {
     /// Creates the list of these items. Does not allocate.
     pub fn new(items: Vec<u32>) -> Elements
+        // The new list has exactly these items.
         ensures { result ≡ items.items }
     {
         Elements { items }
@@ -31,6 +32,7 @@ impl Elements {
 
     /// Returns the items, and consumes `self`. Does not allocate.
     pub fn into_vec(self) -> Vec<u32>
+        // The vector has exactly the items of the list.
         ensures { result.items ≡ self }
     {
         self.items
@@ -38,6 +40,7 @@ impl Elements {
 
     /// Returns the items as a slice.
     pub fn as_slice(&self) -> &[u32]
+        // The slice has exactly the items of the list.
         ensures { result.now ≡ self.now }
     {
         &self.items

@@ -55,6 +55,7 @@ pub enum Op {
 impl Op {
     /// Returns `true` if the operation is an update. An OR-Set's removal is one, although it is a query as well.
     pub fn is_update(&self) -> bool
+        // The result is `true` exactly for the operations that the definitions call updates.
         ensures { result ≡ is_update self.now }
     {
         match self {

@@ -48,6 +48,7 @@ pub enum Refusal {
 ///
 /// O(n), where `n` is the length of the operation's list.
 pub fn fits(kind: Kind, command: &Command) -> Option<Refusal>
+    // The result is the first reason in the definitions to reject the command for its form, or `None` if none applies.
     ensures { result ≡ form_refusal kind command.now }
 {
     match command {

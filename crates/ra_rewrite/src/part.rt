@@ -26,6 +26,7 @@ pub enum Parts {
 impl Parts {
     /// Returns the update among the parts, if any, and consumes `self`.
     pub fn into_update(self) -> Option<Update>
+        // The result is the update among the parts, or `None` if there is none.
         ensures { option_to_list result ≡ filter_map (λ act. update_of act.1) (acts_in self) }
     {
         match self {
@@ -37,6 +38,7 @@ impl Parts {
 
     /// Returns the query among the parts, if any, and consumes `self`.
     pub fn into_query(self) -> Option<Query>
+        // The result is the query among the parts, or `None` if there is none.
         ensures { option_to_list result ≡ filter_map (λ act. query_of act.1) (acts_in self) }
     {
         match self {

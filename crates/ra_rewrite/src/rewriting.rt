@@ -18,7 +18,10 @@ use ra_labels::{Elements, Label, NoMemory, Op, Query, Update};
 ///
 /// O(n), where `n` is the length of the operation's list.
 pub fn parts(label: &Label) -> Result<Parts, NoMemory>
+    // The parts are those into which the definitions rewrite the label's operation, a query half before its update
+    // half.
     ensures acts { IfOk result (λ parts. acts_in parts ≡ acts_of label.now.op) }
+    // The call succeeds if the operation has no list that must be copied.
     ensures memory { takes_memory label.now.op ≡ false → IsOk result }
 {
     parts_of(&label.op)
@@ -34,7 +37,9 @@ pub fn parts(label: &Label) -> Result<Parts, NoMemory>
 ///
 /// As `parts`.
 pub fn parts_of(op: &Op) -> Result<Parts, NoMemory>
+    // The parts are those into which the definitions rewrite the operation, a query half before its update half.
     ensures acts { IfOk result (λ parts. acts_in parts ≡ acts_of op.now) }
+    // The call succeeds if the operation has no list that must be copied.
     ensures memory { takes_memory op.now ≡ false → IsOk result }
 {
     let part = match op {

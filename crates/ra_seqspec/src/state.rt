@@ -54,7 +54,9 @@ impl Model for State {
 impl State {
     /// Creates the kind's state before any update. It always succeeds. A state that is a collection lives in `alloc`.
     pub fn new(alloc: Global, kind: Kind) -> Result<State, NoMemory>
+        // The new state is the initial state of the kind.
         ensures start { IfOk result (λ state. state ≡ initial_state kind) }
+        // The call always succeeds.
         ensures memory { IsOk result }
     {
         let form = match kind {
@@ -77,7 +79,9 @@ impl State {
     ///
     /// O(n), where `n` is the size of the state.
     pub fn copy(&self) -> Result<State, NoMemory>
+        // The copy represents the same state.
         ensures equal { IfOk result (λ copy. copy ≡ self.now) }
+        // The call succeeds for a counter and a register, whose states do not allocate.
         ensures memory { takes_memory self.now ≡ false → IsOk result }
     {
         let form = match &self.form {
@@ -103,10 +107,15 @@ impl State {
     /// O(1) for a counter or a register. O(log n) for a set with `n` entries, for each identifier of an OR-Set's
     /// removal. A constant number of hash map operations for an RGA.
     pub fn apply(&mut self, update: &Update) -> Result<bool, NoMemory>
+        // If the update is admitted and the state is a counter's, its number stays in the range up to `FARTHEST_COUNT`.
         requires { IfSome (step_of self.old update.now) IsInRange }
+        // The result is `true` exactly if the sequential specification admits the update in this state.
         ensures admitted { IfOk result (λ is_admitted. is_admitted ≡ is_some (step_of self.old update.now)) }
+        // The new state is the specification's step, or the old state if the update is not admitted.
         ensures step { IfOk result (λ is_admitted. self.new ≡ unwrap_or (step_of self.old update.now) self.old) }
+        // If allocation fails, the state is unchanged.
         ensures err { OnErr result (self.new ≡ self.old) }
+        // Without a new element, a new pair or an admitted insertion into an RGA, the call succeeds.
         ensures memory { update_takes_memory self.old update.now ≡ false → IsOk result }
     {
         match (&mut self.form, update) {
@@ -143,8 +152,11 @@ impl State {
     ///
     /// A constant number of hash map operations for each update.
     pub fn apply_all(&mut self, updates: &[Update]) -> Result<(), NoMemory>
+        // The state is that of an RGA.
         requires list { kind_of_state self.old ≡ Rga }
+        // The new state is that after all updates in order. An update that is not admitted changes nothing.
         ensures state { OnOk result (self.new ≡ after_all self.old updates.now) }
+        // If allocation fails, the state is unchanged and no update is applied.
         ensures err { OnErr result (self.new ≡ self.old) }
     {
         let Form::Rga(list) = &mut self.form else {
@@ -161,7 +173,9 @@ impl State {
     /// O(1) for a counter or a register, and O(n) for a read of `n` elements or pairs, those that an RGA hides
     /// included. O(log n + k) for the query of an element's `k` identifiers.
     pub fn admits(&self, query: &Query) -> bool
+        // A set's or an element's list in the query is strictly increasing.
         requires { asks_rising query.now ≡ true }
+        // The result is `true` exactly if the query's answer is right in this state.
         ensures { result ≡ answers self.now query.now }
     {
         match (&self.form, query) {
@@ -194,10 +208,15 @@ impl State {
     ///
     /// As `admits`.
     pub fn answer(&self, alloc: Global, query: &Query) -> Result<Option<Query>, NoMemory>
+        // The result is the query with this state's answer, or `None` if the query belongs to another kind.
         ensures answer { IfOk result (λ answer. answer ≡ answered_in self.now query.now) }
+        // The answer in the result is right in this state.
         ensures right { IfOk result (λ answer. IfSome answer (λ it. answers self.now it ≡ true)) }
+        // If the query's own answer is right and any list that has to be strictly increasing is, the result is that
+        // query.
         ensures only { asks_rising query.now ≡ true → answers self.now query.now ≡ true
             → IfOk result (λ answer. IfSome answer (λ it. query.now ≡ it)) }
+        // The call succeeds for a counter and a register, whose answers do not allocate.
         ensures memory { takes_memory self.now ≡ false → IsOk result }
     {
         let answer = match (&self.form, query) {
