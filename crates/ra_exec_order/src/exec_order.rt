@@ -27,7 +27,10 @@ impl Model for ExecOrder {
 impl ExecOrder {
     /// Creates the order without labels.
     pub fn new() -> ExecOrder
+        // The new order has no labels.
         ensures listed { ⟦<ExecOrder as NamedOrder>⟧.listed result ≡ [] }
+        // For a kind that is ordered by execution, the new order represents the empty history with any number of
+        // replicas.
         ensures stands { (kind : Kind) (initial_replicas : ℕ) → IsByExecution kind
             → ⟦<ExecOrder as NamedOrder>⟧.stands_for result (empty_history kind initial_replicas) }
     {
@@ -53,7 +56,9 @@ impl NamedOrder for ExecOrder {
 
     /// Succeeds in every case and changes nothing.
     fn spare(&mut self) -> Result<(), NoMemory>
+        // The call always succeeds.
         ensures made { IsOk result }
+        // The order is unchanged.
         ensures same { self.new ≡ self.old }
     {
         Ok(())

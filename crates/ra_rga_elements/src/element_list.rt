@@ -63,7 +63,9 @@ impl ElementList {
     ///
     /// `NoMemory` if allocation fails.
     pub fn new(alloc: Global) -> Result<ElementList, NoMemory>
+        // The list has the root alone.
         ensures elements { IfOk result (λ list. list.elements ≡ 0 ∷ []) }
+        // The root has number 0, and no other element has arrived.
         ensures arrivals { IfOk result (λ list. list.arrivals ≡ root ∷ []) }
     {
         let mut numbers = HashMap::new(alloc);
@@ -93,6 +95,7 @@ impl ElementList {
 
     /// Returns the number of elements, with the root. It is the number of the next element.
     pub fn len(&self) -> usize
+        // The result is the number of elements, the root included.
         ensures { result ≡ length self.now.arrivals }
     {
         self.elements.len()
@@ -104,6 +107,7 @@ impl ElementList {
     ///
     /// One hash map lookup.
     pub fn number_of(&self, element: u32) -> Option<u32>
+        // The result is a number exactly if the element with that number is this one; otherwise it is `None`.
         ensures { (n : ℕ) → (result ≡ Some n)
             ↔ ((n < length self.now.arrivals) × ((arrival_at self.now.arrivals n).element ≡ element)) }
     {
@@ -112,7 +116,9 @@ impl ElementList {
 
     /// Returns the element with this number.
     pub fn element(&self, number: u32) -> u32
+        // An element with this number exists.
         requires { number < length self.now.arrivals }
+        // The result is the element that arrived under this number.
         ensures { result ≡ (arrival_at self.now.arrivals number).element }
     {
         self.elements[number as usize].element
@@ -120,7 +126,9 @@ impl ElementList {
 
     /// Returns the stamp of the element with this number; the root has the lowest one.
     pub fn stamp(&self, number: u32) -> Stamp
+        // An element with this number exists.
         requires { number < length self.now.arrivals }
+        // The result is the stamp of the element that arrived under this number.
         ensures { result ≡ (arrival_at self.now.arrivals number).stamp }
     {
         self.elements[number as usize].stamp
@@ -128,9 +136,13 @@ impl ElementList {
 
     /// Returns the number of the anchor, behind which the element with this number stands.
     pub fn anchor(&self, number: u32) -> u32
+        // An element with this number exists.
         requires { number < length self.now.arrivals }
+        // The result is the number of the anchor with which the element arrived.
         ensures anchor { result ≡ (arrival_at self.now.arrivals number).anchor }
+        // An element with the returned number exists.
         ensures known { result < length self.now.arrivals }
+        // Every element except the root stands somewhere behind its anchor in the list.
         ensures behind { 0 < number → (all : List (ℕ × Bool)) → elements_in all ≡ self.now.elements
             → let arrival = arrival_at self.now.arrivals number in
             IsSomewhereBehind all arrival.element (arrival_at self.now.arrivals arrival.anchor).element }
@@ -140,10 +152,14 @@ impl ElementList {
 
     /// Returns `true` if the element with this number stands directly behind its anchor.
     pub fn is_youngest(&self, number: u32) -> bool
+        // The number is not that of the root.
         requires some { 0 < number }
+        // An element with this number exists.
         requires there { number < length self.now.arrivals }
+        // The result is `true` exactly if the element stands directly behind its anchor.
         ensures exactly { let arrival = arrival_at self.now.arrivals number in IsTrue result
             ↔ StandsBehind self.now.elements arrival.element (arrival_at self.now.arrivals arrival.anchor).element }
+        // If the result is `true` and a test keeps the anchor, the anchor is the nearest kept element before this one.
         ensures nearest { (keep : ℕ → Bool) (all : List (ℕ × Bool))
             → let arrival = arrival_at self.now.arrivals number in
             let anchor = arrival_at self.now.arrivals arrival.anchor in IsTrue result
@@ -164,8 +180,11 @@ impl ElementList {
     ///
     /// Amortized O(1). If the newest element filled its chunk, the chunk is split, in O(c) with `c` chunks.
     pub fn reserve(&mut self) -> Result<(), NoMemory>
+        // The elements and their order are unchanged, even after a failure.
         ensures elements { self.new.elements ≡ self.old.elements }
+        // The numbers, stamps and anchors of the elements are unchanged, even after a failure.
         ensures arrivals { self.new.arrivals ≡ self.old.arrivals }
+        // After success there is room for one more element.
         ensures room { OnOk result (self.new.has_room ≡ true) }
     {
         self.numbers.reserve(1)?;
@@ -185,13 +204,20 @@ impl ElementList {
     ///
     /// O(c + n), where `c` is the number of chunks passed and `n` the length of a chunk.
     pub fn insert(&mut self, element: u32, stamp: Stamp, anchor: u32)
+        // There is room for one more element.
         requires room { self.old.has_room ≡ true }
+        // The list has fewer than 2^32 elements.
         requires few { length self.old.arrivals < 4294967296 }
+        // The anchor exists.
         requires anchor { anchor < length self.old.arrivals }
+        // The element is not in the list.
         requires new { (n : ℕ) → n < length self.old.arrivals
             → ¬ ((arrival_at self.old.arrivals n).element ≡ element) }
+        // The element arrives as the next number, with this stamp and anchor.
         ensures arrivals { self.new.arrivals
             ≡ self.old.arrivals ++ record { element = element; stamp = stamp; anchor = anchor } ∷ [] }
+        // The element stands where the definitions insert a late element: after its anchor, past the elements directly
+        // behind it that have a greater stamp.
         ensures elements { (below : ℕ → ℕ → Bool) (all : List (ℕ × Bool))
             → IsBelowByStamp below element stamp self.old.arrivals → elements_in all ≡ self.old.elements
             → self.new.elements
@@ -225,10 +251,15 @@ impl ElementList {
     ///
     /// O(n), where `n` is the number of elements between.
     pub fn nearest_before(&self, number: u32, marks: &[bool]) -> u32
+        // The number is not that of the root.
         requires some { 0 < number }
+        // An element with this number exists.
         requires there { number < length self.now.arrivals }
+        // The root is marked.
         requires root { is_marked marks.now 0 ≡ true }
+        // An element with the returned number exists.
         ensures among { result < length self.now.arrivals }
+        // The result is the number of the nearest marked element before this one.
         ensures nearest { (keep : ℕ → Bool) (all : List (ℕ × Bool)) → elements_in all ≡ self.now.elements
             → IsKeptByMark keep marks.now self.now.arrivals → IsNearestBefore keep all
             (arrival_at self.now.arrivals number).element (arrival_at self.now.arrivals result).element }

@@ -64,6 +64,7 @@ impl ReplicaList {
     ///
     /// `NoMemory` if allocation fails.
     pub fn new(alloc: Global) -> Result<ReplicaList, NoMemory>
+        // The new list represents any replica of the empty history.
         ensures { (replica : ℕ) → IfOk result (λ list. IsListOf list (root ∷ []) [] [] replica) }
     {
         let mut there = NumberSet::new(alloc);
@@ -89,6 +90,7 @@ impl ReplicaList {
     /// O(s + w + n), where `s` is the size of the state, `w` the number of pending updates, and `n` the greatest
     /// element number for which room was reserved.
     pub fn copy(&self) -> Result<ReplicaList, NoMemory>
+        // The copy equals the list, pending updates included.
         ensures { IfOk result (λ copy. copy ≡ self.now) }
     {
         Ok(ReplicaList {
@@ -102,6 +104,8 @@ impl ReplicaList {
 
     /// Returns the state after all updates that were delivered to the replica, or `None` if one of them is pending.
     pub fn state(&self) -> Option<&State>
+        // If the list represents the replica in a history, the result is the state after all updates delivered to the
+        // replica, in the named order, or `None` if that order does not admit them.
         ensures { (all : ElementList) (edits : List (Option Edit)) (records : Records) (replica : ℕ)
             → AreElementsOf all edits records → IsListOf self.now all.arrivals edits records replica
             → option_copied result ≡ state_after Rga (delivered_updates Rga records replica) }
@@ -115,6 +119,7 @@ impl ReplicaList {
 
     /// Returns the greatest stamp among the labels that were delivered to the replica, or the lowest rank.
     pub fn greatest(&self) -> Stamp
+        // The result is the greatest stamp that the list records, or the lowest rank if it records none.
         ensures { result ≡ self.now.greatest }
     {
         self.greatest
@@ -138,8 +143,12 @@ impl ReplicaList {
         stamp: Stamp,
         anchor: u32,
     ) -> Result<u64, NoMemory>
+        // Fewer than 2^32 elements have arrived.
         requires few { length all.now.arrivals < 2 ^ 32 }
+        // The anchor exists.
         requires anchor { anchor < length all.now.arrivals }
+        // If the list represented the replica, and its own next label inserts this element and keeps the linearization
+        // conditions, the list represents it with the label. The result is the number of updates that this settles.
         ensures put { IfOk result (λ steps. (edits : List (Option Edit)) (records : Records) (next : NextOperation)
             → AreElementsOf all.now edits records
             → (was : IsListOf self.old all.now.arrivals edits records next.by)
@@ -152,7 +161,9 @@ impl ReplicaList {
             (all.now.arrivals ++ record { element = element; stamp = stamp; anchor = anchor } ∷ [])
             (edits ++ Some (PutsIn (length all.now.arrivals)) ∷ []) now next.by)
             × (settled_count is ≡ settled_count was + steps)) }
+        // The label settles at most one update.
         ensures steps { IfOk result (λ steps. steps ≤ 1) }
+        // If allocation fails, the list represents the same replica and records as before.
         ensures err { OnErr result ((arrivals : List Arrival) (edits : List (Option Edit)) (records : Records)
             (replica : ℕ) → IsListOf self.old arrivals edits records replica
             → IsListOf self.new arrivals edits records replica) }
@@ -190,7 +201,10 @@ impl ReplicaList {
         label: u32,
         number: u32,
     ) -> Result<u64, NoMemory>
+        // An element with this number exists.
         requires number { number < length all.now.arrivals }
+        // If the list represented the replica, and its own next label removes this element and keeps the linearization
+        // conditions, the list represents it with the label. The result is the number of updates that this settles.
         ensures removed { IfOk result (λ steps. (edits : List (Option Edit)) (records : Records) (next : NextOperation)
             → AreElementsOf all.now edits records
             → (was : IsListOf self.old all.now.arrivals edits records next.by)
@@ -201,7 +215,9 @@ impl ReplicaList {
             → updates_admitted Rga (named_sequence Rga now) ≡ true
             → (is : IsListOf self.new all.now.arrivals (edits ++ Some (Removes number) ∷ []) now next.by)
             × (settled_count is ≡ settled_count was + steps)) }
+        // The label settles at most one update.
         ensures steps { IfOk result (λ steps. steps ≤ 1) }
+        // If allocation fails, the list represents the same replica and records as before.
         ensures err { OnErr result ((arrivals : List Arrival) (edits : List (Option Edit)) (records : Records)
             (replica : ℕ) → IsListOf self.old arrivals edits records replica
             → IsListOf self.new arrivals edits records replica) }
@@ -228,12 +244,16 @@ impl ReplicaList {
         label: u32,
         edit: Edit,
     ) -> Result<u64, NoMemory>
+        // The label has this edit and, in a history that the list represents, was not delivered to the replica.
         requires { MayReceive self.old all.now edits.now label edit }
+        // If the list represented the replica and stamps are unique, it represents the replica with the delivery. The
+        // result is the number of updates that the delivery settles.
         ensures got { IfOk result (λ steps. (records : Records) (to : ℕ) → AreElementsOf all.now edits.now records
             → (was : IsListOf self.old all.now.arrivals edits.now records to)
             → edit_at edits.now label ≡ Some edit → has_delivered records to label ≡ false → StampsAreUnique records
             → (is : IsListOf self.new all.now.arrivals edits.now (Deliver to label ∷ records) to)
             × (settled_count is ≡ settled_count was + steps)) }
+        // If allocation fails, the list represents the same replica and records as before.
         ensures err { OnErr result ((arrivals : List Arrival) (edits : List (Option Edit)) (records : Records)
             (replica : ℕ) → IsListOf self.old arrivals edits records replica
             → IsListOf self.new arrivals edits records replica) }

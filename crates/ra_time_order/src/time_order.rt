@@ -39,7 +39,10 @@ impl TimeOrder {
     ///
     /// `NoMemory` if allocation fails.
     pub fn new(alloc: Global, replicas: u8) -> Result<TimeOrder, NoMemory>
+        // The new order has no labels.
         ensures listed { IfOk result (λ order. ⟦<TimeOrder as NamedOrder>⟧.listed order ≡ []) }
+        // For a kind that is ordered by timestamps, the new order represents the empty history with this number of
+        // replicas.
         ensures stands { IfOk result (λ order. (kind : Kind) → IsByTimestamp kind
             → ⟦<TimeOrder as NamedOrder>⟧.stands_for order (empty_history kind replicas)) }
     {

@@ -33,6 +33,8 @@ pub trait NamedOrder: Drop + Send {
     /// Returns the position of the next label, and whether all labels that must precede it stand before it. Does not
     /// allocate.
     fn place(&self, label: &Label, seen: &Seen<'_>) -> Place
+        // If the label comes next after the history that the order represents, the place is the label's position in the
+        // named order, and `fits` tells whether no later label must precede it.
         ensures { (past : History) (next : NextOperation) → stands_for self.now past
             → ComesNext past next label.now seen.now
             → IsPlaceOf past.kind past.records next result };
@@ -43,32 +45,41 @@ pub trait NamedOrder: Drop + Send {
     ///
     /// `NoMemory` if allocation fails.
     fn spare(&mut self) -> Result<(), NoMemory>
+        // After success there is room for one more label.
         ensures room { OnOk result (0 < room self.new) }
+        // The order of the labels is unchanged, even after a failure.
         ensures listed { listed self.new ≡ listed self.old }
+        // The order represents the same histories as before, even after a failure.
         ensures stands { (past : History) → stands_for self.old past → stands_for self.new past };
 
     /// Adds the next label at the position that `place` returns for it. Does not allocate.
     fn put(&mut self, label: &Label, seen: &Seen<'_>, place: Place)
+        // There is room for one more label.
         requires room { 0 < room self.old }
+        // The order has fewer than `MOST_LABELS` labels.
         requires few { length (listed self.old) < MOST_LABELS }
+        // The order has one more label.
         ensures one { length (listed self.new) ≡ length (listed self.old) + 1 }
+        // If the label comes next after the history that the order represented and the place is the label's, the order
+        // then represents the history with the label.
         ensures stands { (past : History) (next : NextOperation) → stands_for self.old past
             → ComesNext past next label.now seen.now → IsPlaceOf past.kind past.records next place
             → stands_for self.new (history_with past (operate next)) };
 
     /// Returns the number of the label at a position, or `None` behind the last one. Does not allocate.
     fn at(&self, position: usize) -> Option<u32>
+        // The result is the number of the label at the position, or `None` if the position is beyond the end.
         ensures { result ≡ slice_get (listed self.now) position };
 
-    // its list is the named order
+    // The list of numbers is the named order of the labels of each history that the order represents.
     ghost lists: { (order : Self) (past : History) → stands_for order past
         → listed order ≡ numbers_in past.kind past.records };
 
-    // a join does not change it
+    // Below `MOST_REPLICAS` replicas, an order that represents a history also represents it with one more join.
     ghost keeps_joined: { (order : Self) (past : History) (joined from : ℕ) → stands_for order past
         → replicas_of past < MOST_REPLICAS → stands_for order (history_with past (Join joined from)) };
 
-    // a delivery does not change it
+    // An order that represents a history also represents it with one more delivery.
     ghost keeps: { (order : Self) (past : History) (to label : ℕ) → stands_for order past
         → stands_for order (history_with past (Deliver to label)) };
 }

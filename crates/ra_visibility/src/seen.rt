@@ -43,6 +43,7 @@ impl<'a> Seen<'a> {
     ///
     /// O(1).
     pub fn has(&self, label: u32) -> bool
+        // The result is `true` exactly if this label is among the updates that the label sees.
         ensures { result ≡ is_in self.now label }
     {
         match self.rows.get(label as usize) {
@@ -57,6 +58,7 @@ impl<'a> Seen<'a> {
     ///
     /// O(1).
     pub fn count(&self, replica: u8) -> u32
+        // The result is the number of the replica's updates that the label sees.
         ensures { result ≡ count_in self.now replica }
     {
         match self.counts.get(replica as usize) {

@@ -48,10 +48,14 @@ impl Tracker {
     ///
     /// O(r · max(r, 64)), where `r` is the number of replicas.
     pub fn new(alloc: Global, replicas: u8) -> Result<Tracker, NoMemory>
+        // The new tracker represents the visibility of the empty history with this number of replicas, of every kind.
         ensures stands { IfOk result (λ tracker.
             (kind : Kind) → IsVisibilityOf tracker.now (empty_history kind replicas)) }
+        // There is no change to undo.
         ensures before { IfOk result (λ tracker. tracker.before ≡ None) }
+        // The tracker has the given number of replicas.
         ensures replicas { IfOk result (λ tracker. replicas_in tracker.now ≡ replicas) }
+        // The tracker has no labels.
         ensures labels { IfOk result (λ tracker. labels_in tracker.now ≡ 0) }
     {
         let tracked = Tracked::new(alloc, replicas)?;
@@ -72,15 +76,24 @@ impl Tracker {
     /// Amortized O(1), or O(r) with `r` replicas if this is the replica's first label or something was delivered to it
     /// since its last one.
     pub fn issue(&mut self, replica: u8, update: bool) -> Result<u32, NoMemory>
+        // The replica exists.
         requires replica { replica < replicas_in self.old.now }
+        // There are fewer than `MOST_LABELS` labels.
         requires room { labels_in self.old.now < MOST_LABELS }
+        // The returned number is the next label's: the number of labels before.
         ensures number { IfOk result (λ label. label ≡ labels_in self.old.now) }
+        // If the tracker represented the visibility of a history, it then represents that of the history with this
+        // operation.
         ensures stands { OnOk result ((past : History) (next : NextOperation) → IsVisibilityOf self.old.now past
             → next.by ≡ replica → is_update next.op ≡ update
             → IsVisibilityOf self.new.now (history_with past (operate next))) }
+        // The issue can be undone: the state to restore is the one before it.
         ensures before { OnOk result (self.new.before ≡ Some self.old.now) }
+        // There is one more label.
         ensures labels { OnOk result (labels_in self.new.now ≡ labels_in self.old.now + 1) }
+        // The number of replicas is unchanged.
         ensures replicas { replicas_in self.new.now ≡ replicas_in self.old.now }
+        // If allocation fails, the tracker is unchanged.
         ensures same { OnErr result (self.new ≡ self.old) }
     {
         let label = self.tracked.labels();
@@ -96,7 +109,9 @@ impl Tracker {
     ///
     /// O(1).
     pub fn sees(&self, replica: u8, label: u32) -> bool
+        // The replica exists.
         requires { replica < replicas_in self.now.now }
+        // The result is `true` exactly if the label is an update that was delivered to the replica.
         ensures { result ≡ has_delivered_in self.now.now replica label }
     {
         self.tracked.sees(replica, label)
@@ -108,8 +123,11 @@ impl Tracker {
     ///
     /// O(1).
     pub fn vis(&self, label: u32) -> Seen<'_>
+        // The label exists.
         requires { label < labels_in self.now.now }
+        // The result is the set of updates that the label sees.
         ensures seen { result ≡ seen_in self.now.now label }
+        // The set contains at most as many updates of a replica as the replica issued.
         ensures issued { (of : ℕ) → of < replicas_in self.now.now
             → count_in result of ≤ issued_count self.now.now of }
     {
@@ -128,17 +146,28 @@ impl Tracker {
     /// O(r) with `r` replicas. O(1) if the label is the issuer's next update at the receiver, and nothing was delivered
     /// to the issuer between it and its update before.
     pub fn deliver(&mut self, replica: u8, label: u32) -> Result<(), DeliverFault>
+        // The replica exists.
         requires { replica < replicas_in self.old.now }
+        // The delivery is accepted only if no reason to reject it applies.
         ensures taken { OnOk result (refusal_in self.old.now replica label ≡ None) }
+        // If the tracker represented the visibility of a history, it then represents that of the history with this
+        // delivery.
         ensures stands { OnOk result ((past : History) → IsVisibilityOf self.old.now past
             → IsVisibilityOf self.new.now (history_with past (Delivered replica label))) }
+        // An accepted delivery leaves a causal history causal.
         ensures causal { OnOk result ((past : History) → IsVisibilityOf self.old.now past → IsCausal past.records
             → IsCausal (Delivered replica label ∷ past.records)) }
+        // The delivery can be undone: the state to restore is the one before it.
         ensures before { OnOk result (self.new.before ≡ Some self.old.now) }
+        // An error is a rejection with the first reason that applies, in the order unknown label, not an update,
+        // already seen, not causal. It is never `NoMemory`.
         ensures refused { IfErr result (λ fault. (why : Refusal) × (fault ≡ Refused why)
             × (refusal_in self.old.now replica label ≡ Some why)) }
+        // The number of labels is unchanged.
         ensures labels { labels_in self.new.now ≡ labels_in self.old.now }
+        // The number of replicas is unchanged.
         ensures replicas { replicas_in self.new.now ≡ replicas_in self.old.now }
+        // If the delivery is rejected, the tracker is unchanged.
         ensures same { OnErr result (self.new ≡ self.old) }
     {
         if let Some(refusal) = self.tracked.refusal(replica, label) {
@@ -163,14 +192,23 @@ impl Tracker {
     ///
     /// O(r), where `r` is the number of counts of a replica: 64, or the initial number of replicas if it is greater.
     pub fn join(&mut self, from: u8) -> Result<u8, NoMemory>
+        // The replica to join from exists.
         requires from { from < replicas_in self.old.now }
+        // There are fewer than `MOST_REPLICAS` replicas.
         requires room { replicas_in self.old.now < MOST_REPLICAS }
+        // The returned number is the new replica's: the number of replicas before.
         ensures number { IfOk result (λ joined. joined ≡ replicas_in self.old.now) }
+        // If the tracker represented the visibility of a history, it then represents that of the history with this
+        // join.
         ensures stands { OnOk result ((past : History) → IsVisibilityOf self.old.now past
             → IsVisibilityOf self.new.now (history_with past (Join (replicas_in self.old.now) from))) }
+        // The join can be undone: the state to restore is the one before it.
         ensures before { OnOk result (self.new.before ≡ Some self.old.now) }
+        // The number of labels is unchanged.
         ensures labels { labels_in self.new.now ≡ labels_in self.old.now }
+        // There is one more replica.
         ensures replicas { OnOk result (replicas_in self.new.now ≡ replicas_in self.old.now + 1) }
+        // If allocation fails, the tracker is unchanged.
         ensures same { OnErr result (self.new ≡ self.old) }
     {
         let joined = self.tracked.replicas();
@@ -185,8 +223,11 @@ impl Tracker {
     ///
     /// O(r), where `r` is the number of replicas.
     pub fn withdraw(&mut self)
+        // There is an accepted issue, delivery or join that can be undone.
         requires { IsSome self.old.before }
+        // The tracker is in the state before its last issue, delivery or join.
         ensures now { Some self.new.now ≡ self.old.before }
+        // There is nothing left to undo.
         ensures before { self.new.before ≡ None }
     {
         match self.last {
