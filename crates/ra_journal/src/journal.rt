@@ -41,21 +41,27 @@ pub trait Journal: Drop + Send {
 
     /// Returns the largest number of entries of the log, from 1 to `MOST_ENTRIES`.
     fn limit(&self) -> u32
+        // The result is the limit that the setup states.
         ensures limit { result ≡ limit_of (setup self.now) }
+        // The limit is from 1 to `MOST_ENTRIES`.
         ensures range { (0 < result) × (result ≤ MOST_ENTRIES) };
 
     /// Returns the number of entries of the log.
     fn calls(&self) -> u32
+        // The result is the length of the log.
         ensures { result ≡ length (log self.now) };
 
     /// Returns the number that identifies the journal's fault, if it has one. It is less than `calls`. For a monitor it
     /// is the label of the fault.
     fn fault(&self) -> Option<u32>
+        // The result is the journal's function of its setup and its log that names the fault.
         ensures fault { result ≡ fault_of (setup self.now) (log self.now) }
+        // The number that names a fault is less than the length of the log.
         ensures below { IfSome result (λ f. f < length (log self.now)) };
 
     /// Returns the ticket of the last entry, if there is one.
     fn last_ticket(&self) -> Option<u64>
+        // The result is the ticket of the log's last entry, or `None` if the log is empty.
         ensures { result ≡ last_ticket_of (log self.now) };
 
     /// Answers a command, logs the reply and returns it.
@@ -70,11 +76,18 @@ pub trait Journal: Drop + Send {
         ticket: u64,
         command: Self::Command,
     ) -> Result<Self::Reply, StepFault<Self::Command>>
+        // The ticket is greater than that of the log's last entry.
         requires { IsAboveLast (log self.old) ticket }
+        // The reply is the journal's function of the setup, the log before the call and the command.
         ensures reply { IfOk result (λ r. r ≡ reply_of (setup self.old) (log self.old) command) }
+        // A successful call appends exactly one entry: this pass, this ticket, the command and the reply.
         ensures logged { IfOk result (λ r. log self.new ≡ log self.old ++ entry pass ticket command r ∷ []) }
+        // `Full` is returned exactly if the log has as many entries as the limit allows.
         ensures full { (result ≡ Err (StepFault.Full command)) ↔ (length (log self.old) ≡ limit_of (setup self.old)) }
+        // An error returns the command to the caller.
         ensures handed_back { IfErr result (λ f. unstepped f ≡ command) }
+        // After an error, the log is unchanged.
         ensures unchanged { OnErr result (log self.new ≡ log self.old) }
+        // The setup never changes.
         ensures same_setup { setup self.new ≡ setup self.old };
 }

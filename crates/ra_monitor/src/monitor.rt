@@ -64,11 +64,17 @@ impl Monitor {
     /// `BadReplicas` if the number of replicas is not in 1 to 64, then `BadLimit` if the limit is not in 1 to
     /// 1,048,576. Both are tested before any allocation. `NoMemory` if allocation fails.
     pub fn new(alloc: Global, kind: Kind, replicas: u8, limit: u32) -> Result<Monitor, NewFault>
+        // The new monitor's log is empty.
         ensures log { IfOk result (λ monitor. monitor.log ≡ []) }
+        // The new monitor has the given kind.
         ensures kind { IfOk result (λ monitor. monitor.setup.kind ≡ kind) }
+        // The new monitor has the given number of initial replicas.
         ensures replicas { IfOk result (λ monitor. monitor.setup.replicas ≡ replicas) }
+        // The new monitor's log has the given limit.
         ensures limit { IfOk result (λ monitor. monitor.setup.limit ≡ limit) }
+        // `BadReplicas` is returned exactly if the number of replicas is not from 1 to 64.
         ensures bad_replicas { IsErrOf result NewFault.BadReplicas ↔ (AreReplicas replicas → ⊥) }
+        // `BadLimit` is returned exactly if the number of replicas is allowed and the limit is not from 1 to 1,048,576.
         ensures bad_limit { IsErrOf result NewFault.BadLimit ↔ (AreReplicas replicas × (IsLimit limit → ⊥)) }
     {
         if replicas < 1 || replicas > MOST_REPLICAS {
@@ -95,7 +101,9 @@ impl Monitor {
 
     /// Returns the values with which the monitor was created.
     pub fn setup(&self) -> Setup
+        // The result is the setup with which the monitor was created.
         ensures setup { result ≡ self.now.setup }
+        // Its number of replicas is from 1 to 64, and its limit from 1 to 1,048,576.
         ensures range { AreReplicas result.replicas × IsLimit result.limit }
     {
         self.setup
@@ -103,8 +111,12 @@ impl Monitor {
 
     /// Returns the log, the oldest entry first.
     pub fn log(&self) -> &[Entry<Command, Reply>]
+        // The result is the log, oldest entry first.
         ensures entries { result.now ≡ self.now.log }
+        // The log is legal: each reply is the single-threaded monitor's answer after the entries before it, and tickets
+        // increase strictly.
         ensures legal { IsLegalLog self.now.setup self.now.log }
+        // The log has at most as many entries as its limit, which is from 1 to 1,048,576.
         ensures fits { (length self.now.log ≤ self.now.setup.limit) × IsLimit self.now.setup.limit }
     {
         self.log.as_slice()
@@ -112,7 +124,10 @@ impl Monitor {
 
     /// Returns the log, and consumes `self`.
     pub fn into_log(self) -> Vec<Entry<Command, Reply>>
+        // The result has exactly the entries of the log.
         ensures entries { result.items ≡ self.log }
+        // The log is legal: each reply is the single-threaded monitor's answer after the entries before it, and tickets
+        // increase strictly.
         ensures legal { IsLegalLog self.setup self.log }
     {
         let Monitor {
@@ -126,7 +141,9 @@ impl Monitor {
 
     /// Returns the number of replicas so far, those that joined included. Does not allocate.
     pub fn replicas(&self) -> u8
+        // The result is the number of initial replicas and of the accepted joins in the log.
         ensures replicas { result ≡ replica_count self.now.setup.replicas (records_of self.now.setup self.now.log) }
+        // The number is from 1 to 64.
         ensures range { AreReplicas result }
     {
         self.history.replicas
@@ -139,6 +156,8 @@ impl Monitor {
     ///
     /// O(1).
     pub fn has_delivered(&self, replica: u8, label: u32) -> bool
+        // The result is `true` exactly if, by the records of the log, the label is an update that was delivered to the
+        // replica.
         ensures { result ≡ has_delivered (records_of self.now.setup self.now.log) replica label }
     {
         self.history.has_delivered(replica, label)
@@ -154,7 +173,9 @@ impl Monitor {
     /// Returns the number of entries, within the limit, that can be logged before the log has to allocate. Does not
     /// allocate.
     pub fn room(&self) -> u32
+        // The result is the number of entries that can be logged before the log has to allocate.
         ensures room { result ≡ self.now.room }
+        // The room never exceeds what the limit leaves.
         ensures within { length self.now.log + result ≤ self.now.setup.limit }
     {
         let left = self.setup.limit as usize - self.log.len();
@@ -174,10 +195,15 @@ impl Monitor {
     ///
     /// O(n), where `n` is the number of entries, since the log may be moved; O(1) if the room exists.
     pub fn reserve(&mut self, entries: u32) -> Result<(), NoMemory>
+        // After success there is room for the requested number of entries, or for as many as the limit leaves.
         ensures room { OnOk result (min entries (self.old.setup.limit - length self.old.log) ≤ self.new.room) }
+        // If that room already exists, the call succeeds.
         ensures there { min entries (self.old.setup.limit - length self.old.log) ≤ self.old.room → IsOk result }
+        // The room never decreases, even after a failure.
         ensures kept_room { self.old.room ≤ self.new.room }
+        // The log is unchanged, even after a failure.
         ensures log { self.new.log ≡ self.old.log }
+        // The setup never changes.
         ensures same_setup { self.new.setup ≡ self.old.setup }
     {
         let left = self.setup.limit as usize - self.log.len();
@@ -199,8 +225,10 @@ impl Monitor {
     /// O(n) for a counter or an OR-Set, and O(n r) for the other kinds, where `n` is the number of labels and `r` the
     /// number of the order's runs.
     pub fn sequence(&self) -> Result<Vec<PartRef>, NoMemory>
+        // The result is the named sequence of the labels before the fault, or of all labels if there is none.
         ensures named { IfOk result (λ parts. parts.items
             ≡ map ref_of (named_sequence self.now.setup.kind (records_before_fault_in self.now.setup self.now.log))) }
+        // This sequence is an RA-linearization of the records before the fault.
         ensures linearizes { let records = records_before_fault_in self.now.setup self.now.log in OnOk result
             (IsRaLinearization self.now.setup.kind records (named_sequence self.now.setup.kind records)) }
     {
@@ -209,11 +237,18 @@ impl Monitor {
 
     /// Returns the summary of the log. Does not allocate.
     pub fn report(&self) -> Report
+        // The report states the kind of the monitor.
         ensures kind { result.kind ≡ self.now.setup.kind }
+        // The number of calls is the length of the log.
         ensures calls { result.calls ≡ length self.now.log }
+        // The number of labels is that of the accepted operations in the log.
         ensures labels { result.labels ≡ label_count (records_of self.now.setup self.now.log) }
+        // The number of rejections is that of the log's replies `Refused`.
         ensures refused { result.refused ≡ refused_count self.now.log }
+        // The fault is that of the log's records: the first label that fails and the first condition that it violates.
         ensures fault { result.fault ≡ fault_in self.now.setup self.now.log }
+        // For a counter or an OR-Set the fault is final: no sequence is an RA-linearization of the records up to its
+        // label, not even one that only extends visibility.
         ensures final_fault { IsTrue (is_of_any_order self.now.setup.kind)
             → IsFinalFault self.now.setup self.now.log result.fault }
     {
@@ -266,7 +301,9 @@ impl Journal for Monitor {
 
     /// Returns the ticket of the log's last entry, if there is one. The next ticket has to be greater.
     fn last_ticket(&self) -> Option<u64>
+        // The result is the ticket of the log's last entry, or `None` if the log is empty.
         ensures last { result ≡ last_ticket_of self.now.log }
+        // Every greater ticket may be that of the next step.
         ensures next { (ticket : ℕ) → IfSome result (λ last. last < ticket) → IsNextTicket self.now ticket }
     {
         match self.log.as_slice().last() {
@@ -287,37 +324,50 @@ impl Journal for Monitor {
     /// The calls of the tracker, the order and the witness that the command needs; they read no other label's
     /// operation. A join copies the counts and the state of one replica (measured in bench/README.md).
     fn step(&mut self, pass: u8, ticket: u64, command: Command) -> Result<Reply, StepFault<Command>>
+        // The ticket is greater than that of the log's last entry.
         requires { IsNextTicket self.old ticket }
 
-        // The reply is the single-threaded monitor's, and is logged.
+        // The reply is the single-threaded monitor's answer to the command after the records of the log.
         ensures reply { IfOk result (λ reply.
             reply ≡ answer_of self.old.setup.kind self.old.setup.replicas
             (records_of self.old.setup self.old.log) command) }
+        // A successful call appends exactly one entry: this pass, this ticket, the command and the reply.
         ensures logged { IfOk result (λ reply. self.new.log
             ≡ self.old.log ++ record { pass = pass; ticket = ticket; command = command; reply = reply } ∷ []) }
+        // The setup never changes.
         ensures same_setup { self.new.setup ≡ self.old.setup }
+        // The log is legal after the call: each reply is the single-threaded monitor's answer after the entries before
+        // it.
         ensures legal { IsLegalLog self.new.setup self.new.log }
 
-        // A `Yes` is evidence, and a `No` comes exactly at the fault.
+        // If the reply is `Ok` or `Yes`, some sequence is an RA-linearization of the records up to and with this
+        // command.
         ensures yes { IfOk result (λ reply. IsTrue (is_yes reply) → IsRaLinearizable self.new.setup self.new.log) }
+        // The reply is `No` with a label and a cause exactly if these are the fault of the records up to and with this
+        // command.
         ensures no { IfOk result (λ reply. IsNoAtFault self.new.setup self.new.log reply) }
 
-        // The `No` of a counter or an OR-Set is final: no sequence at all linearizes the records up to its label.
+        // For a counter or an OR-Set a reply `No` is final: no sequence is an RA-linearization of the records up to its
+        // label, not even one that only extends visibility.
         ensures final_no { IfOk result (λ reply. IsTrue (is_of_any_order self.new.setup.kind)
             → IsFinalNo self.new.setup self.new.log reply) }
 
-        // After `Full` or `NoMemory` the log is unchanged.
+        // `Full` is returned exactly if the log has as many entries as its limit.
         ensures full { (result ≡ Err (StepFault.Full command)) ↔ (length self.old.log ≡ self.old.setup.limit) }
+        // After an error, the log is unchanged.
         ensures unchanged { OnErr result (self.new.log ≡ self.old.log) }
+        // An error returns the command to the caller.
         ensures handed_back { IfErr result (λ fault. unstepped fault ≡ command) }
 
-        // With room left, a command that leaves the records unchanged is answered, and each answer uses the room of one
-        // entry. Such replies are a rejection, a `Yes`, and the `No` of an earlier label.
+        // With room left, a command that leaves the records unchanged is answered and never fails for lack of memory.
+        // Such replies are a rejection, a `Yes`, and the `No` of an earlier label.
         ensures settled { 0 < self.old.room
             → records_after self.old.setup.kind self.old.setup.replicas
             (records_of self.old.setup self.old.log) command ≡ records_of self.old.setup self.old.log
             → IsOk result }
+        // With room left, each answer uses the room of exactly one entry.
         ensures spent { 0 < self.old.room → OnOk result (self.old.room ≡ self.new.room + 1) }
+        // An error never decreases the room.
         ensures kept_room { OnErr result (self.old.room ≤ self.new.room) }
     {
         if self.log.len() == self.setup.limit as usize {

@@ -34,7 +34,9 @@ impl Trial {
     ///
     /// `NoMemory` if allocation fails.
     pub fn new(alloc: Global, setup: &Setup) -> Result<Trial, NoMemory>
+        // The new trial represents a history to which no command was reported.
         ensures told { IfOk result (λ trial. HasAnswered trial []) }
+        // The trial has the given setup.
         ensures setup { IfOk result (λ trial. trial.setup ≡ setup.now) }
     {
         Ok(Trial {
@@ -54,13 +56,18 @@ impl Trial {
     ///
     /// As `Monitor::step`, without the log.
     pub fn tell(&mut self, command: Command) -> Result<Reply, NoMemory>
+        // The trial represents the history after some commands.
         requires { HasAnsweredSome self.old }
+        // The reply is the single-threaded monitor's answer after the commands reported so far, and the trial then
+        // represents these and this one.
         ensures told { (commands : List Command) → HasAnswered self.old commands → IfOk result (λ reply.
             (reply ≡ answer_of self.old.setup.kind self.old.setup.replicas
             (records_after_all self.old.setup.kind self.old.setup.replicas [] commands) command)
             × HasAnswered self.new (commands ++ command ∷ [])) }
+        // After `NoMemory`, the trial represents the same commands as before.
         ensures same { (commands : List Command) → HasAnswered self.old commands
             → OnErr result (HasAnswered self.new commands) }
+        // The setup never changes.
         ensures same_setup { self.new.setup ≡ self.old.setup }
     {
         if self.history.labels == MOST_LABELS {
