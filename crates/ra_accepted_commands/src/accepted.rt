@@ -7,6 +7,8 @@ use ra_labels::Reply;
 /// Returns `true` if the reply shows that its command was accepted. `failed` is whether a `No` came before it: the
 /// command of the first `No` is accepted, and no later one is.
 pub fn is_accepting_reply(failed: bool, reply: Reply) -> bool
+    // The result is `true` exactly if a command with this reply is accepted: `Ok`, `Got` or `Joined`, or the first
+    // `No`.
     ensures { result ≡ accepted.is_accepting_reply failed reply }
 {
     match reply {
@@ -18,6 +20,7 @@ pub fn is_accepting_reply(failed: bool, reply: Reply) -> bool
 
 /// Returns `true` if the reply is `No`.
 pub fn is_no(reply: Reply) -> bool
+    // The result is `true` exactly if the reply is `No`.
     ensures { result ≡ accepted.is_no reply }
 {
     match reply {

@@ -30,10 +30,14 @@ pub fn command(
     names: &Names,
     line: &[u8],
 ) -> Result<Option<Command>, NoMemory>
+    // The result is what the line's fields encode, as the definition of reading computes it.
     ensures read { IfOk result (λ found. found ≡ command_read format kind names.now (fields_of line.now)) }
+    // A command in the result is one that the line encodes by the grammar.
     ensures found { IfOk result (λ found. IfSome found (λ command. Spells format kind names.now line.now command)) }
+    // If the line encodes a command by the grammar, the result is that command.
     ensures only { IfOk result (λ found. (command : Command) → Spells format kind names.now line.now command →
         found ≡ Some command) }
+    // Allocation can fail only for a line that may have a list.
     ensures memory { OnErr result (may_have_list kind (fields_of line.now) ≡ true) }
 {
     command_in(alloc, format, kind, names, Fields::of(line))
@@ -42,6 +46,7 @@ pub fn command(
 /// Returns the second field of the line: the new name, if the line encodes a join. Returns an empty slice if there is
 /// no second field.
 pub fn new_name(line: &[u8]) -> &[u8]
+    // The result is the second field of the line, or empty if there is none.
     ensures { result.now ≡ new_name line.now }
 {
     let mut fields = Fields::of(line);

@@ -14,6 +14,8 @@ use std::marker::Model;
 ///
 /// O(length of what precedes the byte).
 pub fn cut_at(byte: u8, bytes: &[u8]) -> Option<(&[u8], &[u8])>
+    // The result is what stands before and after the first occurrence of the byte, or `None` exactly if it does not
+    // occur.
     ensures { MatchOption result (All (λ b. b ≢ byte) bytes.now) (λ cut. IsCutAt byte bytes.now cut.0.now cut.1.now) }
 {
     match memchr(byte, bytes) {
@@ -41,6 +43,7 @@ impl<'a> Model for Fields<'a> {
 impl<'a> Fields<'a> {
     /// Returns all fields of the line.
     pub fn of(line: &'a [u8]) -> Fields<'a>
+        // The fields are those into which the grammar splits the line.
         ensures { result ≡ fields_of line.now }
     {
         Fields { rest: Some(line) }
@@ -52,6 +55,7 @@ impl<'a> Fields<'a> {
     ///
     /// O(length of the field).
     pub fn take(&mut self) -> Option<&'a [u8]>
+        // The result is the first of the fields, and the others are left. It is `None` exactly if none is left.
         ensures { MatchOption result ((self.old ≡ []) × (self.new ≡ [])) (λ field. self.old ≡ field.now ∷ self.new) }
     {
         let Some(rest) = self.rest else {
@@ -76,6 +80,8 @@ impl<'a> Fields<'a> {
     ///
     /// O(length of the field).
     pub fn take_marked(&mut self) -> Option<&'a [u8]>
+        // The result is what follows the number sign of the first field, and the other fields are left. It is `None`
+        // exactly if the first field has no number sign or is missing, and then nothing is taken.
         ensures { MatchOption result ((mark_first self.old ≡ None) × (self.new ≡ self.old))
             (λ word. self.old ≡ marked word.now ∷ self.new) }
     {

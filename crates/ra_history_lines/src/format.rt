@@ -16,6 +16,7 @@ pub enum Format {
 impl Format {
     /// Returns the prefix of the first line, including the space before the kind's word.
     pub fn word(self) -> &'static str
+        // The result is the prefix of a first line of this format, as the grammar states it.
         ensures { result.now ≡ grammar.format_word self }
     {
         match self {
@@ -26,6 +27,7 @@ impl Format {
 
     /// Returns the largest number of names that a second line may list.
     pub fn most_names(self) -> usize
+        // The result is the largest number of names that the grammar allows in this format: 16 in RAH 1, 64 in RAH 2.
         ensures { result ≡ grammar.most_names self }
     {
         match self {

@@ -12,8 +12,11 @@ use ra_labels::Kind;
 
 /// Returns the format and the kind that a first line names, or `None` if the line is malformed.
 pub fn head_of(line: &[u8]) -> Option<(Format, Kind)>
+    // The result is the format and the kind that the definition of reading computes from the line.
     ensures read { result ≡ head_read line.now }
+    // A result is the format and the kind of this very line.
     ensures found { IfSome result (λ head. line.now ≡ first_line head.0 head.1) }
+    // If the line is the first line of a format and a kind, the result is these.
     ensures only { (format : Format) (kind : Kind) → line.now ≡ first_line format kind →
         result ≡ Some (format, kind) }
 {
@@ -38,6 +41,7 @@ fn kind_of(format: Format, line: &[u8]) -> Option<Kind>
 
 /// Returns the kind that this word names, or `None` if it names none.
 pub fn kind_of_word(word: &[u8]) -> Option<Kind>
+    // The result is the kind whose word this is, or `None` if there is none.
     ensures { result ≡ kind_named word.now }
 {
     if is_word(word, "counter") {
@@ -57,6 +61,7 @@ pub fn kind_of_word(word: &[u8]) -> Option<Kind>
 
 /// Returns the word that names the kind.
 pub fn kind_word(kind: Kind) -> &'static str
+    // The result is the word of the kind in the grammar.
     ensures { result.now ≡ grammar.kind_word kind }
 {
     match kind {

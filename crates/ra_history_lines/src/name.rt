@@ -82,8 +82,12 @@ impl Names {
     ///
     /// O(total length of the names), and a comparison of each name with those before it.
     pub fn new(alloc: Global, names: &[&str]) -> Result<Names, NamesFault>
+        // After success the names are the given ones, in order.
         ensures names { IfOk result (λ list. list ≡ texts_of names.now) }
+        // After success the names are from 1 to 64, valid and distinct.
         ensures good { OnOk result (AreNames Rah2 (texts_of names.now)) }
+        // `BadCount` comes exactly for an empty list or more than 64 names, and otherwise `BadName` for the first
+        // invalid or repeated name. `NoMemory` comes only for valid names.
         ensures fault { IfErr result (IsFaultOf (texts_of names.now)) }
     {
         if names.is_empty() || names.len() > MOST_NAMES {
@@ -118,7 +122,9 @@ impl Names {
     ///
     /// `Syntax` if the line lists no names of this format; `NoMemory` if an allocation fails.
     pub fn read(alloc: Global, format: Format, line: &[u8]) -> Result<Names, LineFault>
+        // The names of the result are those that the line lists, by the grammar of a second line.
         ensures found { IfOk result (λ names. ListsNames format line.now names) }
+        // `Syntax` is returned only if the line lists no names of this format.
         ensures syntax { IsErrOf result Syntax → (names : List (List ℕ)) → ListsNames format line.now names → ⊥ }
     {
         let mut fields = Fields::of(line);
@@ -148,6 +154,7 @@ impl Names {
 
     /// Returns the number of names.
     pub fn count(&self) -> u8
+        // The result is the number of names.
         ensures { result ≡ length self.now }
     {
         self.set.len() as u8
@@ -155,6 +162,7 @@ impl Names {
 
     /// Returns the name of the replica with this number, or `None` if there is no such replica.
     pub fn name(&self, replica: u8) -> Option<&[u8]>
+        // The result is the name at this position, or `None` if there is no such replica.
         ensures { option_copied result ≡ slice_get self.now replica }
     {
         match self.set.get_index(replica as usize) {
@@ -165,6 +173,7 @@ impl Names {
 
     /// Exposes the invariant of the names to the caller's proof. Does nothing at run time.
     pub fn are_names(&self)
+        // The names are at most 64, valid and distinct.
         ensures { AreNamesSoFar self.now }
     {
         let _ = &self.set;
@@ -177,6 +186,8 @@ impl Names {
     ///
     /// O(length of the word): a hash lookup, whatever the number of names.
     pub fn replica(&self, word: &[u8]) -> Option<u8>
+        // The result is the position of the word among the names, the number of names if it is a valid name of no
+        // replica, and `None` if it is no valid name.
         ensures { result ≡ replica_read self.now word.now }
     {
         let place = place_in(&self.set, word);
@@ -199,9 +210,14 @@ impl Names {
     ///
     /// O(length of the name).
     pub fn add(&mut self, name: &[u8]) -> Result<(), NamesFault>
+        // After success the name stands behind the former ones, and nothing else changed.
         ensures added { OnOk result (self.new ≡ self.old ++ name.now ∷ []) }
+        // After success, the name was valid and new, and there were fewer than 64 names.
         ensures may { OnOk result (MayJoin Rah2 self.old name.now) }
+        // `BadName(0)` comes exactly for an invalid or repeated name, and otherwise `BadCount` at 64 names. `NoMemory`
+        // comes only for a name that may be added.
         ensures fault { IfErr result (StopsAdding self.old name.now) }
+        // After an error, the names are unchanged.
         ensures err { OnErr result (self.new ≡ self.old) }
     {
         if !self.is_new(name) {

@@ -13,6 +13,7 @@ use ra_labels::NoMemory;
 /// O(length of the field).
 #[tactic(auto, unfolding(crate::specs::Reading::number_read))]
 pub fn number(field: &[u8]) -> Option<u32>
+    // The result is the number below 2^32 that the field encodes, or `None` if it encodes none.
     ensures { result ≡ number_read field.now }
 {
     if begins_as_number(field) {
@@ -25,6 +26,7 @@ pub fn number(field: &[u8]) -> Option<u32>
 /// Returns the signed number that the field encodes, from -2,147,483,648 to 2,147,483,647, or `None` if it encodes
 /// none.
 pub fn signed_number(field: &[u8]) -> Option<i32>
+    // The result is the number from -2^31 to 2^31 - 1 that the field encodes, or `None` if it encodes none.
     ensures { result ≡ signed_read field.now }
 {
     match field {
@@ -100,7 +102,9 @@ fn below_zero(size: u32) -> Option<i32>
 ///
 /// `NoMemory` if an allocation fails; the buffer then begins with its former contents, and a part may follow.
 pub fn put_numbered(out: &mut Vec<u8>, words: &[u8], number: u32) -> Result<(), NoMemory>
+    // After success, the words and the number's decimal digits are appended, and nothing else changed.
     ensures put { OnOk result (out.new.items ≡ out.old.items ++ (words.now ++ decimal number)) }
+    // If allocation fails, the buffer begins with its former contents.
     ensures part { OnErr result (BeginsWith out.old.items out.new.items) }
 {
     out.extend_from_slice(words)?;
@@ -113,7 +117,9 @@ pub fn put_numbered(out: &mut Vec<u8>, words: &[u8], number: u32) -> Result<(), 
 ///
 /// `NoMemory` if an allocation fails; the buffer then begins with its former contents.
 pub fn put_number(out: &mut Vec<u8>, number: u32) -> Result<(), NoMemory>
+    // After success, the number's decimal digits are appended, and nothing else changed.
     ensures put { OnOk result (out.new.items ≡ out.old.items ++ decimal number) }
+    // If allocation fails, the buffer begins with its former contents.
     ensures part { OnErr result (BeginsWith out.old.items out.new.items) }
 {
     let mut buffer = Buffer::new();

@@ -67,6 +67,7 @@ impl Model for Reading {
 impl Reading {
     /// Creates the reading of a text of which no line was read. Does not allocate.
     pub fn new(alloc: Global) -> Reading
+        // The new reading has read no line.
         ensures { result ≡ Nothing }
     {
         Reading {
@@ -87,8 +88,12 @@ impl Reading {
     ///
     /// O(length of the line). Only names and lists allocate.
     pub fn line(&mut self, line: &[u8]) -> Result<Item, LineFault>
+        // The result is the item that the line encodes at this point of a text, and the reading then has the names and
+        // the kind read so far. The line has at most 1,048,576 bytes.
         ensures gives { IfOk result (λ item. Gives self.old line.now item self.new) }
+        // `Syntax` is returned only if the line encodes nothing that may come at this point, or is too long.
         ensures syntax { IsErrOf result Syntax → (item : Item) (next : Header) → Gives self.old line.now item next → ⊥ }
+        // After an error, the reading is unchanged.
         ensures err { OnErr result (self.new ≡ self.old) }
     {
         if line.len() > LONGEST_LINE {
@@ -108,9 +113,14 @@ impl Reading {
     ///
     /// O(length of the name).
     pub fn add(&mut self, name: &str) -> Result<(), NamesFault>
+        // Both lines before the commands were read.
         requires { HasNames self.old }
+        // After success the reading has this name behind the former ones, and nothing else changed.
         ensures added { OnOk result (self.new ≡ with_name self.old name.now) }
+        // `BadName(0)` comes exactly for an invalid or repeated name, and otherwise `BadCount` at 64 names. `NoMemory`
+        // comes only for a name that may be added.
         ensures fault { IfErr result (StopsAdding (names_in self.old) name.now) }
+        // After an error, the reading is unchanged.
         ensures err { OnErr result (self.new ≡ self.old) }
     {
         match &mut self.header {

@@ -13,7 +13,9 @@ use ra_labels::{Cause, Fault, NoMemory, Refusal, Reply};
 ///
 /// `NoMemory` if an allocation fails; the buffer's contents are then unchanged.
 pub fn put_reply(out: &mut Vec<u8>, reply: Reply) -> Result<(), NoMemory>
+    // After success, the line of the reply is appended, and nothing else changed.
     ensures put { OnOk result (out.new.items ≡ out.old.items ++ output.reply_line reply) }
+    // If allocation fails, the buffer's contents are unchanged.
     ensures err { OnErr result (out.new.items ≡ out.old.items) }
 {
     let before = out.len();
@@ -30,7 +32,9 @@ pub fn put_reply(out: &mut Vec<u8>, reply: Reply) -> Result<(), NoMemory>
 ///
 /// `NoMemory` if an allocation fails; the buffer's contents are then unchanged.
 pub fn put_end(out: &mut Vec<u8>, labels: u32, fault: Option<Fault>) -> Result<(), NoMemory>
+    // After success, the end line for this number of labels and this fault is appended, and nothing else changed.
     ensures put { OnOk result (out.new.items ≡ out.old.items ++ output.end_line labels fault) }
+    // If allocation fails, the buffer's contents are unchanged.
     ensures err { OnErr result (out.new.items ≡ out.old.items) }
 {
     let before = out.len();
@@ -119,6 +123,7 @@ fn put_bytes(out: &mut Vec<u8>, bytes: &[u8]) -> Result<(), NoMemory>
 
 /// Returns the word of a cause.
 pub fn cause_word(cause: Cause) -> &'static str
+    // The result is the word of the cause: `order`, `update` or `query`.
     ensures { result.now ≡ output.cause_word cause }
 {
     match cause {

@@ -34,6 +34,7 @@ pub enum CheckFault {
 impl CheckFault {
     /// Returns the error of a text that has this fault at this line.
     pub fn at_line(fault: LineFault, line: u32) -> CheckFault
+        // The result is the error with this fault and this line's number.
         ensures { result ≡ fault_at_line fault line }
     {
         match fault {

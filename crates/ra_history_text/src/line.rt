@@ -14,8 +14,10 @@ use std::io::Write;
 /// `NoMemory` if an allocation fails: nothing was written. `Write` if the writer fails or accepts no byte: a proper
 /// prefix of the line was written.
 pub fn write_line<W: Write>(words: String, writer: &mut W) -> Result<(), CheckFault>
+    // After success, exactly the words and a line feed were written.
     ensures written { OnOk result (Appends (W.contents writer.old) (W.contents writer.new)
         (string_bytes words ++ 10 ∷ [])) }
+    // After `NoMemory` nothing was written, and after `Write` a proper prefix of the line. No other error occurs.
     ensures stopped { IfErr result (StopsLine (string_bytes words ++ 10 ∷ [])
         (W.contents writer.old) (W.contents writer.new)) }
 {

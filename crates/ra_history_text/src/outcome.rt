@@ -15,6 +15,8 @@ pub struct Outcome {
 /// Returns the program's exit status: 0 for a pass without rejected commands, 1 for a violation, 2 for an error, and 3
 /// for a pass with at least one rejected command.
 pub fn status(result_of_check: &Result<Outcome, CheckFault>) -> u8
+    // The status is 2 for an error, 1 for a violation, 0 for a pass without rejections, and 3 for a pass with
+    // rejections.
     ensures { result ≡ status_of result_of_check.now }
 {
     match result_of_check {

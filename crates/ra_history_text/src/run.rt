@@ -35,17 +35,18 @@ pub fn check<R: Read, W: Write>(
     reader: &mut R,
     writer: &mut W,
 ) -> Result<Outcome, CheckFault>
-    // Nothing is left to read.
+    // After success, nothing is left to read.
     ensures end { OnOk result (IsAtEnd (R.remaining reader.new)) }
-    // The text has a regular end, exactly its output was written, and the report is that of its history.
+    // After success, if the reader's bytes are known, the text has a regular end and exactly its output was written.
+    // The report is that of its history.
     ensures answered { IfOk result (λ outcome. IfSome (R.remaining reader.old) (λ text.
         WritesAnswer text (W.contents writer.old) (W.contents writer.new) outcome.report)) }
-    // The text ends with this error, and exactly its output was written; or the reader, the writer or an allocation
-    // failed during the check.
+    // After `Syntax`, `Truncated`, `LineTooLong` or `Full` the text ends with this error at this line, and exactly its
+    // output was written. After `Read` or `Endless` the replies to all whole lines read were written, after `NoMemory`
+    // those to some first lines, and after `Write` a proper prefix of the output.
     ensures stopped { IfErr result (λ fault. IfSome (R.remaining reader.old) (λ text.
         StopsCheck text (R.remaining reader.new) (W.contents writer.old) (W.contents writer.new) fault)) }
-    // `Endless` implies that the reader provided at least 4,294,967,296 bytes. The clause does not count reads; the
-    // loop does, and each of its reads returned at least one byte.
+    // `Endless` is returned only if the reader provided at least 4,294,967,296 bytes.
     ensures endless { IsErrOf result Endless → HasGiven (R.remaining reader.old) (R.remaining reader.new) MOST_READS }
 {
     let mut session = Session::new(alloc);
@@ -67,14 +68,24 @@ pub fn check_session<R: Read, W: Write>(
     reader: &mut R,
     writer: &mut W,
 ) -> Result<Outcome, CheckFault>
+    // The session has read nothing.
     requires { session.old ≡ text_start }
+    // After success, nothing is left to read.
     ensures end { OnOk result (IsAtEnd (R.remaining reader.new)) }
+    // After success, if the reader's bytes are known, the text has a regular end and exactly its output was written.
+    // The report is that of its history.
     ensures answered { IfOk result (λ outcome. IfSome (R.remaining reader.old) (λ text.
         WritesAnswer text (W.contents writer.old) (W.contents writer.new) outcome.report)) }
+    // After success, if the reader's bytes are known, the session has read exactly this text.
     ensures taken { OnOk result (IfSome (R.remaining reader.old) (λ text. taken text_start text ≡ Ok session.new)) }
+    // After success, the report is that of the history that the session has read.
     ensures reported { IfOk result (λ outcome. Reports session.new.said outcome.report) }
+    // After `Syntax`, `Truncated`, `LineTooLong` or `Full` the text ends with this error at this line, and exactly its
+    // output was written. After `Read` or `Endless` the replies to all whole lines read were written, after `NoMemory`
+    // those to some first lines, and after `Write` a proper prefix of the output.
     ensures stopped { IfErr result (λ fault. IfSome (R.remaining reader.old) (λ text.
         StopsCheck text (R.remaining reader.new) (W.contents writer.old) (W.contents writer.new) fault)) }
+    // `Endless` is returned only if the reader provided at least 4,294,967,296 bytes.
     ensures endless { IsErrOf result Endless → HasGiven (R.remaining reader.old) (R.remaining reader.new) MOST_READS }
 {
     let mut out = Vec::new(alloc);

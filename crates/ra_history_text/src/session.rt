@@ -183,6 +183,7 @@ impl Model for Session {
 impl Session {
     /// Creates the session of a text of which nothing has arrived. Does not allocate.
     pub fn new(alloc: Global) -> Session
+        // The new session is at the start of a text.
         ensures { result ≡ text_start }
     {
         Session {
@@ -202,9 +203,13 @@ impl Session {
     ///
     /// O(length of the piece), and the monitor's steps. A line that lies within one piece is not copied.
     pub fn feed(&mut self, piece: &[u8], out: &mut Vec<u8>) -> Result<(), CheckFault>
+        // After success, the session is where the piece leads from where it was, however the text is cut into pieces.
         ensures taken { OnOk result (taken self.old piece.now ≡ Ok self.new) }
+        // After success, exactly the replies to the lines that became whole are appended.
         ensures replied { OnOk result (AddsReplies self.old.said self.new.said
             out.old.items out.new.items) }
+        // After an error, the text stops inside the piece with this error, or an allocation failed there. The replies
+        // to the lines before are appended.
         ensures fault { IfErr result (StopsInside self.old piece.now out.old.items out.new.items) }
     {
         let mut rest = piece;
@@ -222,8 +227,13 @@ impl Session {
     /// `Truncated` if the text may not end here, and `NoMemory` if an allocation fails. On an error nothing is
     /// appended.
     pub fn finish(&self, out: &mut Vec<u8>) -> Result<Report, CheckFault>
+        // After success, the text has its regular end here, its end line is appended, and the report is that of its
+        // history.
         ensures ended { IfOk result (EndsText self.now out.old.items out.new.items) }
+        // `Truncated` is returned exactly where the text may not end. `NoMemory` is returned only where it has a
+        // regular end.
         ensures fault { IfErr result (StopsEnding self.now) }
+        // After an error, nothing is appended.
         ensures err { OnErr result (out.new.items ≡ out.old.items) }
     {
         if !self.partial.is_empty() {
@@ -242,6 +252,8 @@ impl Session {
     /// Returns the monitor that answered the lines so far, or `None` before the first two lines. Entry k of its log,
     /// from 0, is the command of line k + 3.
     pub fn monitor(&self) -> Option<&Monitor>
+        // The monitor has the kind, the number of initial replicas and the commands of the lines so far. The result is
+        // `None` exactly before the first two lines.
         ensures { MatchOption result (SaysNoHistory self.now.said) (λ monitor. IsToldBy self.now.said monitor.now) }
     {
         match &self.stage {
@@ -252,6 +264,8 @@ impl Session {
 
     /// Returns the names of the replicas so far, by their numbers, or `None` before the first two lines.
     pub fn names(&self) -> Option<&Names>
+        // The names are those of the second line and of the accepted joins so far. The result is `None` exactly before
+        // the first two lines.
         ensures { MatchOption result (SaysNoHistory self.now.said) (λ names. names.now ≡ names_said self.now.said) }
     {
         match &self.stage {
@@ -262,6 +276,8 @@ impl Session {
 
     /// Returns the monitor and the names, or `None` before the first two lines. Consumes `self`.
     pub fn into_history(self) -> Option<(Monitor, Names)>
+        // The monitor and the names are those of the lines so far. The result is `None` exactly before the first two
+        // lines.
         ensures { MatchOption result (SaysNoHistory self.said)
             (λ parts. IsToldBy self.said parts.0 × (parts.1 ≡ names_said self.said)) }
     {
@@ -274,6 +290,7 @@ impl Session {
 
     /// Returns the format that the first line names, or `None` before that line.
     pub fn format(&self) -> Option<Format>
+        // The result is the format that the first line names, or `None` before that line.
         ensures { result ≡ format_said self.now.said }
     {
         match &self.stage {
@@ -286,6 +303,7 @@ impl Session {
     /// Returns the bytes so far of the next line. After an error they are the kept bytes of the faulty line, which no
     /// clause states; nothing was kept if its allocation failed.
     pub fn line_so_far(&self) -> &[u8]
+        // The result is the bytes so far of the next line.
         ensures { result.now ≡ self.now.partial }
     {
         &self.partial

@@ -15,7 +15,9 @@ pub struct Unwritten;
 ///
 /// `Unwritten` if the writer fails, or accepts no byte: a proper prefix of the bytes was written.
 pub fn write_out<W: Write>(writer: &mut W, bytes: &[u8]) -> Result<(), Unwritten>
+    // After success, exactly these bytes were written.
     ensures written { OnOk result (Appends (W.contents writer.old) (W.contents writer.new) bytes.now) }
+    // After an error, a proper prefix of the bytes was written.
     ensures part { OnErr result ((rest : List ℕ) × (0 < length rest)
         × HasWritten (W.contents writer.old) (W.contents writer.new) bytes.now rest) }
 {

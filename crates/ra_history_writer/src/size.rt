@@ -13,6 +13,7 @@ use ra_labels::{Command, Op};
 ///
 /// O(length of a list in the command).
 pub fn line_size(names: &Names, command: &Command) -> u128
+    // The result is the length of the command's line, without its line feed.
     ensures { result ≡ length (line_of names.now command.now) }
 {
     match command {

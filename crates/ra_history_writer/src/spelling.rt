@@ -21,7 +21,9 @@ use ra_labels::{Command, Elements, NoMemory, Op};
 ///
 /// O(length of the line).
 pub fn put_command(out: &mut Vec<u8>, names: &Names, command: &Command) -> Result<(), NoMemory>
+    // After success, the line of the command is appended, without a line feed.
     ensures put { OnOk result (out.new.items ≡ out.old.items ++ line_of names.now command.now) }
+    // After success, the numbers on the line fit in 32 bits.
     ensures small { OnOk result (AreSmall command.now) }
 {
     match command {
@@ -49,7 +51,9 @@ pub fn put_command(out: &mut Vec<u8>, names: &Names, command: &Command) -> Resul
 ///
 /// O(total length of these names).
 pub fn put_names(out: &mut Vec<u8>, names: &Names, count: u8) -> Result<(), NoMemory>
+    // There are at least `count` names.
     requires { count ≤ length names.now }
+    // After success, the first `count` names are appended, each preceded by a space.
     ensures { OnOk result (out.new.items ≡ out.old.items ++ spaced (take count names.now)) }
 {
     for replica in 0..count {

@@ -39,11 +39,17 @@ pub fn write_history<W: Write>(
     names: &Names,
     writer: &mut W,
 ) -> Result<(), WriteFault>
-    // The text that was written has a regular end, and says these names, the monitor's kind and its accepted commands.
+    // After success, exactly one text was written. It has a regular end and states these names, the monitor's kind and
+    // its accepted operations, deliveries and joins, in order.
     ensures written { OnOk result
         (WritesHistory monitor.now names.now (W.contents writer.old) (W.contents writer.new)) }
+    // After success, there are as many names as replicas.
     ensures as_many { OnOk result (AreAsMany monitor.now names.now) }
+    // After success, no command's line is too long.
     ensures short { OnOk result (AreShort names.now (records_in_order monitor.now)) }
+    // `BadNames` comes exactly if the number of names differs from that of the replicas, and otherwise `LineTooLong`
+    // with the index of the first command whose line is too long. After these and `NoMemory` nothing was written, and
+    // after `Write` a proper prefix of such a text.
     ensures stopped { IfErr result
         (StopsWriting monitor.now names.now (W.contents writer.old) (W.contents writer.new)) }
 {
