@@ -56,15 +56,24 @@ impl DeskReporter {
         monitor: Monitor,
         reporters: u8,
     ) -> Result<Vec<DeskReporter>, OpenFault<Monitor>>
+        // The monitor's log is empty.
         requires { monitor.log ≡ [] }
+        // After success there is the given number of reporters, numbered from 0 in the list's order.
         ensures numbers { IfOk result (λ all. map number_of all.items ≡ range_with_len 0 reporters) }
+        // All reporters belong to one desk.
         ensures one_desk { IfOk result (λ all. AreOfOneLock (passes_of all.items)) }
+        // Each reporter has the setup of the monitor.
         ensures setup { IfOk result (λ all. All (λ r. setup_of r ≡ monitor.setup) all.items) }
+        // No reporter has seen an entry of the log.
         ensures log { IfOk result (λ all. All (λ r. log_of r ≡ []) all.items) }
+        // Each reporter knows of no drawn ticket.
         ensures drawn { IfOk result (λ all. All (λ r. drawn_of r ≡ 0) all.items) }
+        // Each reporter knows of no served ticket.
         ensures served { IfOk result (λ all. All (λ r. served_of r ≡ 0) all.items) }
+        // Outside 1 to 64 reporters, the call returns `BadPasses` with the monitor.
         ensures bad_passes { (reporters ≡ 0) ⊎ (MOST_PASSES < reporters)
             → result ≡ Err (OpenFault.BadPasses monitor) }
+        // From 1 to 64 reporters, the only error is `NoMemory`.
         ensures else_no_memory { 0 < reporters → reporters ≤ MOST_PASSES → IsOkUnless result OpenFault.NoMemory }
     {
         let setup = Setup {
@@ -96,6 +105,7 @@ impl DeskReporter {
 
     /// Returns its index in the list that `open` returned, from 0.
     pub fn number(&self) -> u8
+        // The result is the reporter's number.
         ensures { result ≡ number_of self.now }
     {
         self.caller.number()
@@ -112,39 +122,55 @@ impl DeskReporter {
     ///
     /// That of `Monitor::step` and of `TicketLock::submit`.
     pub fn tell<R: Wait>(&mut self, rt: &R, command: Command) -> Result<Reply, CallFault<Command>>
-        // In each case it is the same reporter, has seen no less, and a legal log stays legal.
+        // It is the same reporter of the same desk with the same setup, and it knows no less of the log and of the
+        // tickets than before.
         ensures same { IsSameReporter self.old self.new }
+        // If the log that the reporter had seen was legal, the log that it has then seen is legal, even after an error.
         ensures legal_still { IsLegalLog (setup_of self.old) (log_of self.old)
             → IsLegalLog (setup_of self.new) (log_of self.new) }
 
-        // This report is the last entry of the log that it has then seen, which is legal and begins with all that it
-        // had seen.
+        // After a reply, the log that the reporter has seen ends with this report and its reply.
         ensures logged { IfOk result (λ reply. EndsWith (log_of self.new) (number_of self.old) command reply) }
+        // Before this entry, that log begins with all that the reporter had seen before the call.
         ensures not_before { IfOk result (λ reply. BeginsWith (before_last (log_of self.new)) (log_of self.old)) }
+        // After a reply, the reporter's own reports are those before and this one, once.
         ensures mine { IfOk result (λ reply. IsReportedOnce self.old self.new command reply) }
+        // After a reply, the log that the reporter has seen is legal: each reply in it is the single-threaded monitor's
+        // answer after the entries before it.
         ensures legal { IfOk result (λ reply. IsLegalLog (setup_of self.new) (log_of self.new)) }
 
-        // The reply is the single-threaded monitor's answer after the entries before it. A reply `yes` is evidence, a
-        // reply `no` comes exactly at the fault, and for a counter or an OR-Set it is final.
+        // The reply is the single-threaded monitor's answer after the entries before it.
         ensures answer { IfOk result (λ reply.
             reply ≡ answer_after (setup_of self.new) (before_last (log_of self.new)) command) }
+        // If the reply is `Ok` or `Yes`, some sequence is an RA-linearization of the records up to and with this
+        // report.
         ensures yes { IfOk result (λ reply. IsTrue (is_yes reply)
             → IsRaLinearizable (setup_of self.new) (log_of self.new)) }
+        // The reply is `No` with a label and a cause exactly if these are the fault of the records up to and with this
+        // report.
         ensures no { IfOk result (λ reply. IsNoAtFault (setup_of self.new) (log_of self.new) reply) }
+        // For a counter or an OR-Set a reply `No` is final: no sequence is an RA-linearization of the records up to its
+        // label, not even one that only extends visibility.
         ensures final_no { IfOk result (λ reply. IsTrue (is_of_any_order (setup_of self.new).kind)
             → IsFinalNo (setup_of self.new) (log_of self.new) reply) }
 
-        // A fault logs nothing.
+        // An error returns the command to the caller.
         ensures handed_back { IfErr result (λ fault. unserved fault ≡ command) }
+        // After an error, the reporter's own reports are those before.
         ensures mine_still { IfErr result (λ fault. reports_of self.new ≡ reports_of self.old) }
+        // After `Full`, the log that the reporter has seen has as many entries as the setup allows.
         ensures full_at_the_limit { IfErr result (λ fault. IsFull fault
             → length (log_of self.new) ≡ (setup_of self.new).limit) }
+        // After `NoMemory`, the log that the reporter has seen is not at the limit.
         ensures no_memory_below_the_limit { IfErr result (λ fault. IsNoMemory fault
             → length (log_of self.new) ≢ (setup_of self.new).limit) }
+        // `Busy` is never returned.
         ensures never_busy { IfErr result (λ fault. ¬ (IsBusy fault)) }
+        // `Worn` is returned only if all 18,446,744,073,709,551,615 tickets are drawn.
         ensures worn_at_the_end { IfErr result (λ fault. IsWorn fault → drawn_of self.new ≡ GREATEST_TICKET + 1) }
+        // After `Worn`, the reporter has seen nothing more.
         ensures worn_unchanged { IfErr result (λ fault. IsWorn fault → log_of self.new ≡ log_of self.old) }
-        // After `Full` and `NoMemory` the drawn ticket is served.
+        // After `Full` or `NoMemory`, more tickets are served than the reporter knew of before the call.
         ensures served { IfErr result (λ fault. IsFull fault ⊎ IsNoMemory fault
             → served_of self.old < served_of self.new) }
     {
@@ -162,34 +188,59 @@ impl DeskReporter {
     ///
     /// That of `tell`, without the wait.
     pub fn try_tell(&mut self, command: Command) -> Result<Reply, CallFault<Command>>
+        // It is the same reporter of the same desk with the same setup, and it knows no less of the log and of the
+        // tickets than before.
         ensures same { IsSameReporter self.old self.new }
+        // If the log that the reporter had seen was legal, the log that it has then seen is legal, even after an error.
         ensures legal_still { IsLegalLog (setup_of self.old) (log_of self.old)
             → IsLegalLog (setup_of self.new) (log_of self.new) }
 
+        // After a reply, the log that the reporter has seen ends with this report and its reply.
         ensures logged { IfOk result (λ reply. EndsWith (log_of self.new) (number_of self.old) command reply) }
+        // Before this entry, that log begins with all that the reporter had seen before the call.
         ensures not_before { IfOk result (λ reply. BeginsWith (before_last (log_of self.new)) (log_of self.old)) }
+        // After a reply, the reporter's own reports are those before and this one, once.
         ensures mine { IfOk result (λ reply. IsReportedOnce self.old self.new command reply) }
+        // After a reply, the log that the reporter has seen is legal: each reply in it is the single-threaded monitor's
+        // answer after the entries before it.
         ensures legal { IfOk result (λ reply. IsLegalLog (setup_of self.new) (log_of self.new)) }
 
+        // The reply is the single-threaded monitor's answer after the entries before it.
         ensures answer { IfOk result (λ reply.
             reply ≡ answer_after (setup_of self.new) (before_last (log_of self.new)) command) }
+        // If the reply is `Ok` or `Yes`, some sequence is an RA-linearization of the records up to and with this
+        // report.
         ensures yes { IfOk result (λ reply. IsTrue (is_yes reply)
             → IsRaLinearizable (setup_of self.new) (log_of self.new)) }
+        // The reply is `No` with a label and a cause exactly if these are the fault of the records up to and with this
+        // report.
         ensures no { IfOk result (λ reply. IsNoAtFault (setup_of self.new) (log_of self.new) reply) }
+        // For a counter or an OR-Set a reply `No` is final: no sequence is an RA-linearization of the records up to its
+        // label, not even one that only extends visibility.
         ensures final_no { IfOk result (λ reply. IsTrue (is_of_any_order (setup_of self.new).kind)
             → IsFinalNo (setup_of self.new) (log_of self.new) reply) }
 
+        // An error returns the command to the caller.
         ensures handed_back { IfErr result (λ fault. unserved fault ≡ command) }
+        // After an error, the reporter's own reports are those before.
         ensures mine_still { IfErr result (λ fault. reports_of self.new ≡ reports_of self.old) }
+        // After `Full`, the log that the reporter has seen has as many entries as the setup allows.
         ensures full_at_the_limit { IfErr result (λ fault. IsFull fault
             → length (log_of self.new) ≡ (setup_of self.new).limit) }
+        // After `NoMemory`, the log that the reporter has seen is not at the limit.
         ensures no_memory_below_the_limit { IfErr result (λ fault. IsNoMemory fault
             → length (log_of self.new) ≢ (setup_of self.new).limit) }
+        // `Worn` is returned only if all 18,446,744,073,709,551,615 tickets are drawn.
         ensures worn_at_the_end { IfErr result (λ fault. IsWorn fault → drawn_of self.new ≡ GREATEST_TICKET + 1) }
+        // After `Full` or `NoMemory`, more tickets are served than the reporter knew of before the call.
         ensures served { IfErr result (λ fault. IsFull fault ⊎ IsNoMemory fault
             → served_of self.old < served_of self.new) }
+        // `Busy` reports the ticket being served and, above it, the next ticket to draw, and this is what the reporter
+        // has then learned of the tickets.
         ensures busy_found { IfErr result (λ fault. IsBusy fault → IsFoundBusy self.new fault) }
+        // `Busy` is returned only while tickets are left.
         ensures busy_below_the_end { IfErr result (λ fault. IsBusy fault → drawn_of self.new ≤ GREATEST_TICKET) }
+        // After `Worn` or `Busy`, the reporter has seen nothing more.
         ensures not_drawn_unchanged { IfErr result (λ fault. IsWorn fault ⊎ IsBusy fault
             → log_of self.new ≡ log_of self.old) }
     {
@@ -200,12 +251,18 @@ impl DeskReporter {
     /// Returns the number of reports logged so far, and the label of the first violation, if there is one. Does not
     /// wait, does not allocate and cannot fail.
     pub fn glance(&mut self) -> Glance
+        // It is the same reporter of the same desk with the same setup, and it knows no less of the log and of the
+        // tickets than before.
         ensures same { IsSameReporter self.old self.new }
+        // The log that the reporter has then seen is legal.
         ensures legal { IsLegalLog (setup_of self.new) (log_of self.new) }
+        // The reporter's own reports in it are those before.
         ensures mine { reports_of self.new ≡ reports_of self.old }
         // What the reporter knows of the tickets is unchanged.
         ensures draws_none { (drawn_of self.new ≡ drawn_of self.old) × (served_of self.new ≡ served_of self.old) }
+        // The number of calls is the length of the log that the reporter has then seen.
         ensures calls { result.calls ≡ length (log_of self.new) }
+        // The fault is the label of the first violation of that log, or `None` if it has none.
         ensures fault { result.fault ≡ fault_label_in (setup_of self.new) (log_of self.new) }
     {
         self.caller.glance()
@@ -215,16 +272,26 @@ impl DeskReporter {
     /// which contains all reports of both. The returned number is its length. Does not wait, does not allocate and
     /// cannot fail.
     pub fn meet(self, other: DeskReporter) -> (DeskReporter, DeskReporter, u32)
+        // Both reporters belong to one desk.
         requires one_desk { AreOfOneDesk self other }
+        // The first reporter is the same one, with the same setup, and it knows no less of the log and of the tickets
+        // than before.
         ensures first { IsSameReporter self result.0 }
+        // The second reporter is the same one, with the same setup, and it knows no less of the log and of the tickets
+        // than before.
         ensures second { IsSameReporter other result.1 }
+        // The first reporter's own reports are those before.
         ensures mine_first { reports_of result.0 ≡ reports_of self }
+        // The second reporter's own reports are those before.
         ensures mine_second { reports_of result.1 ≡ reports_of other }
+        // Both have then seen one log.
         ensures one_log { log_of result.1 ≡ log_of result.0 }
+        // That log is legal.
         ensures legal { IsLegalLog (setup_of result.0) (log_of result.0)
             × IsLegalLog (setup_of result.1) (log_of result.1) }
-        // Of the tickets, each reporter knows what either knew.
+        // Of the tickets, each reporter then knows exactly what either knew.
         ensures draws_none { KnowsWhatEitherKnew self other result.0 × KnowsWhatEitherKnew self other result.1 }
+        // The returned number is the length of that log.
         ensures calls { result.2 ≡ length (log_of result.0) }
     {
         let DeskReporter { caller, setup } = self;
@@ -247,11 +314,18 @@ impl DeskReporter {
     ///
     /// `Shared`, with this reporter, if other reporters exist; `Unsettled` if a report was begun and not finished.
     pub fn close(self) -> Result<Monitor, DeskCloseFault>
+        // The returned monitor has the reporter's setup.
         ensures setup { IfOk result (λ monitor. monitor.setup ≡ setup_of self) }
+        // The log of the returned monitor is legal.
         ensures legal { IfOk result (λ monitor. IsLegalLog monitor.setup monitor.log) }
+        // It begins with the log that the reporter had seen.
         ensures begins { IfOk result (λ monitor. BeginsWith monitor.log (log_of self)) }
+        // It has exactly the reporter's own reports under its number.
         ensures mine { IfOk result (λ monitor. entries_of (number_of self) monitor.log ≡ reports_of self) }
+        // `Shared` returns this reporter, with its pass at its desk.
         ensures handed_back { IfErr result (λ fault. HandsBack fault self) }
+        // `Unsettled` reports two numbers, the first less than the second, and neither less than what the reporter knew
+        // of the tickets.
         ensures unsettled { IfErr result (λ fault. TellsUnsettled fault self) }
     {
         let DeskReporter { caller, setup } = self;

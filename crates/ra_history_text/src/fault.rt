@@ -34,7 +34,7 @@ pub enum CheckFault {
 impl CheckFault {
     /// Returns the error of a text that has this fault at this line.
     pub fn at_line(fault: LineFault, line: u32) -> CheckFault
-        // The result is the error with this fault and this line's number.
+        // The result is the check's error for this fault, with the line's number if the fault is `Syntax`.
         ensures { result ≡ fault_at_line fault line }
     {
         match fault {

@@ -46,7 +46,7 @@ pub fn check<R: Read, W: Write>(
     // those to some first lines, and after `Write` a proper prefix of the output.
     ensures stopped { IfErr result (λ fault. IfSome (R.remaining reader.old) (λ text.
         StopsCheck text (R.remaining reader.new) (W.contents writer.old) (W.contents writer.new) fault)) }
-    // `Endless` is returned only if the reader provided at least 4,294,967,296 bytes.
+    // `Endless` is returned only if the reader provided at least 4,294,967,296 bytes, where its bytes are known.
     ensures endless { IsErrOf result Endless → HasGiven (R.remaining reader.old) (R.remaining reader.new) MOST_READS }
 {
     let mut session = Session::new(alloc);
@@ -85,7 +85,7 @@ pub fn check_session<R: Read, W: Write>(
     // those to some first lines, and after `Write` a proper prefix of the output.
     ensures stopped { IfErr result (λ fault. IfSome (R.remaining reader.old) (λ text.
         StopsCheck text (R.remaining reader.new) (W.contents writer.old) (W.contents writer.new) fault)) }
-    // `Endless` is returned only if the reader provided at least 4,294,967,296 bytes.
+    // `Endless` is returned only if the reader provided at least 4,294,967,296 bytes, where its bytes are known.
     ensures endless { IsErrOf result Endless → HasGiven (R.remaining reader.old) (R.remaining reader.new) MOST_READS }
 {
     let mut out = Vec::new(alloc);

@@ -173,7 +173,7 @@ impl State {
     /// O(1) for a counter or a register, and O(n) for a read of `n` elements or pairs, those that an RGA hides
     /// included. O(log n + k) for the query of an element's `k` identifiers.
     pub fn admits(&self, query: &Query) -> bool
-        // A set's or an element's list in the query is strictly increasing.
+        // If the query has a list of a set's elements or of identifiers, the list is strictly increasing.
         requires { asks_rising query.now ≡ true }
         // The result is `true` exactly if the query's answer is right in this state.
         ensures { result ≡ answers self.now query.now }

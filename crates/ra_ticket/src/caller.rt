@@ -53,14 +53,23 @@ impl<M: Journal> Caller<M> {
     ///
     /// O(n) for n callers.
     pub fn open(alloc: Global, state: M, callers: u8) -> Result<Vec<Caller<M>>, OpenFault<M>>
+        // The journal's log is empty.
         requires { M.log state ≡ [] }
+        // After success there is the given number of callers, numbered from 0 in the list's order.
         ensures numbers { IfOk result (λ v. map number_of (passes_of v.items) ≡ range_with_len 0 callers) }
+        // All callers belong to one lock.
         ensures one_lock { IfOk result (λ v. AreOfOneLock (passes_of v.items)) }
+        // Each caller knows that the next ticket to draw is 0 or later.
         ensures next { IfOk result (λ v. All (λ p. next_reached p ≡ 0) (passes_of v.items)) }
+        // Each caller knows that the ticket being served is 0 or later.
         ensures serving { IfOk result (λ v. All (λ p. serving_reached p ≡ 0) (passes_of v.items)) }
+        // Each caller has the setup of the journal.
         ensures setup { IfOk result (λ v. All (λ p. pass_setup p ≡ Some (M.setup state)) (passes_of v.items)) }
+        // No caller has seen an entry.
         ensures seen { IfOk result (λ v. All (λ p. seen p ≡ []) (passes_of v.items)) }
+        // Outside 1 to 64 callers, the call returns `BadPasses` with the journal.
         ensures bad_passes { (callers ≡ 0) ⊎ (MOST_PASSES < callers) → result ≡ Err (OpenFault.BadPasses state) }
+        // From 1 to 64 callers, the only error is `NoMemory`.
         ensures else_no_memory { 0 < callers → callers ≤ MOST_PASSES → IsOkUnless result OpenFault.NoMemory }
     {
         let (lock, passes) = TicketLock::open(alloc, state, callers, 0)?;
@@ -89,7 +98,9 @@ impl<M: Journal> Caller<M> {
 
     /// Returns the index of its pass in the list that `open` returned, from 0. Every pass has a setup.
     pub fn number(&self) -> u8
+        // The result is the caller's number.
         ensures number { result ≡ number_of (pass_of self.now) }
+        // The caller has a setup.
         ensures setup { HasSetup (pass_of self.now) }
     {
         self.pass.number()
@@ -105,23 +116,36 @@ impl<M: Journal> Caller<M> {
         rt: &R,
         command: M::Command,
     ) -> Result<M::Reply, CallFault<M::Command>>
+        // The caller keeps its number, lock and setup, and knows no less of the tickets and of the log than before.
         ensures pass { IsSamePass (pass_of self.old) (pass_of self.new) }
+        // After a reply, the log that the caller has seen is legal.
         ensures legal { IfOk result (λ _. KnowsLegal M.reply_of (pass_of self.new)) }
+        // If the log that the caller had seen was legal, the log that it has then seen is legal, even after an error.
         ensures legal_still { KnowsLegal M.reply_of (pass_of self.old) → KnowsLegal M.reply_of (pass_of self.new) }
+        // After a reply, the log that the caller has seen begins with all that it had seen and ends with this call and
+        // its reply. The entry's ticket was served during the call.
         ensures logged { IfOk result (λ r. IsLogged (pass_of self.old) (pass_of self.new) command r) }
+        // After a reply, the caller's own entries are those before and this one, once.
         ensures mine { IfOk result (λ r. IsMineAndThen (pass_of self.old) (pass_of self.new) command r) }
+        // After an error, the caller's own entries are those before.
         ensures mine_still { IfErr result (λ _. mine (pass_of self.new) ≡ mine (pass_of self.old)) }
+        // An error returns the command to the caller.
         ensures handed_back { IfErr result (λ f. unserved f ≡ command) }
+        // `Worn` is returned only if all 18,446,744,073,709,551,615 tickets are drawn.
         ensures worn_at_the_end { IfErr result (λ f. IsWorn f
             → next_reached (pass_of self.new) ≡ GREATEST_TICKET + 1) }
+        // After `Worn`, the caller has seen nothing more.
         ensures worn_unchanged { IfErr result (λ f. IsWorn f → seen (pass_of self.new) ≡ seen (pass_of self.old)) }
+        // After `Full`, the log that the caller has seen has as many entries as the limit allows.
         ensures full_at_the_limit { IfErr result (λ f. IsFull f → IfSome (pass_setup (pass_of self.new))
             (λ s. length (seen (pass_of self.new)) ≡ M.limit_of s)) }
-        // After `Full` and `NoMemory` the drawn ticket is served.
+        // After `Full` or `NoMemory`, more tickets are served than the caller knew of before the call.
         ensures served { IfErr result (λ f. IsFull f ⊎ IsNoMemory f
             → serving_reached (pass_of self.old) < serving_reached (pass_of self.new)) }
+        // After `NoMemory`, the log that the caller has seen is not at the limit.
         ensures no_memory_below_the_limit { IfErr result (λ f. IsNoMemory f → IfSome (pass_setup (pass_of self.new))
             (λ s. length (seen (pass_of self.new)) ≢ M.limit_of s)) }
+        // `Busy` is never returned.
         ensures never_busy { IfErr result (λ f. ¬ (IsBusy f)) }
     {
         self.lock.submit(rt, &mut self.pass, command)
@@ -133,25 +157,40 @@ impl<M: Journal> Caller<M> {
     ///
     /// Those of `TicketLock::try_submit`.
     pub fn try_submit(&mut self, command: M::Command) -> Result<M::Reply, CallFault<M::Command>>
+        // The caller keeps its number, lock and setup, and knows no less of the tickets and of the log than before.
         ensures pass { IsSamePass (pass_of self.old) (pass_of self.new) }
+        // After a reply, the log that the caller has seen is legal.
         ensures legal { IfOk result (λ _. KnowsLegal M.reply_of (pass_of self.new)) }
+        // If the log that the caller had seen was legal, the log that it has then seen is legal, even after an error.
         ensures legal_still { KnowsLegal M.reply_of (pass_of self.old) → KnowsLegal M.reply_of (pass_of self.new) }
+        // After a reply, the log that the caller has seen begins with all that it had seen and ends with this call and
+        // its reply. The entry's ticket was served during the call.
         ensures logged { IfOk result (λ r. IsLogged (pass_of self.old) (pass_of self.new) command r) }
+        // After a reply, the caller's own entries are those before and this one, once.
         ensures mine { IfOk result (λ r. IsMineAndThen (pass_of self.old) (pass_of self.new) command r) }
+        // After an error, the caller's own entries are those before.
         ensures mine_still { IfErr result (λ _. mine (pass_of self.new) ≡ mine (pass_of self.old)) }
+        // An error returns the command to the caller.
         ensures handed_back { IfErr result (λ f. unserved f ≡ command) }
+        // `Worn` is returned only if all 18,446,744,073,709,551,615 tickets are drawn.
         ensures worn_at_the_end { IfErr result (λ f. IsWorn f
             → next_reached (pass_of self.new) ≡ GREATEST_TICKET + 1) }
+        // After `Full`, the log that the caller has seen has as many entries as the limit allows.
         ensures full_at_the_limit { IfErr result (λ f. IsFull f → IfSome (pass_setup (pass_of self.new))
             (λ s. length (seen (pass_of self.new)) ≡ M.limit_of s)) }
-        // After `Full` and `NoMemory` the drawn ticket is served.
+        // After `Full` or `NoMemory`, more tickets are served than the caller knew of before the call.
         ensures served { IfErr result (λ f. IsFull f ⊎ IsNoMemory f
             → serving_reached (pass_of self.old) < serving_reached (pass_of self.new)) }
+        // After `NoMemory`, the log that the caller has seen is not at the limit.
         ensures no_memory_below_the_limit { IfErr result (λ f. IsNoMemory f → IfSome (pass_setup (pass_of self.new))
             (λ s. length (seen (pass_of self.new)) ≢ M.limit_of s)) }
+        // `Busy` reports the ticket being served and, above it, the next ticket to draw, and this is what the caller
+        // has then learned of the tickets.
         ensures busy_found { IfErr result (λ f. IsBusy f → IsFoundBusy (pass_of self.new) f) }
+        // `Busy` is returned only while tickets are left.
         ensures busy_below_the_end { IfErr result (λ f. IsBusy f
             → next_reached (pass_of self.new) ≤ GREATEST_TICKET) }
+        // After `Worn` or `Busy`, the caller has seen nothing more.
         ensures not_drawn_unchanged { IfErr result (λ f. IsWorn f ⊎ IsBusy f
             → seen (pass_of self.new) ≡ seen (pass_of self.old)) }
     {
@@ -160,13 +199,18 @@ impl<M: Journal> Caller<M> {
 
     /// Returns what `TicketLock::glance` does, with the caller's pass, at the same cost. Does not wait and cannot fail.
     pub fn glance(&mut self) -> Glance
+        // The caller keeps its number, lock and setup, and knows no less of the tickets and of the log than before.
         ensures pass { IsSamePass (pass_of self.old) (pass_of self.new) }
+        // The log that the caller has then seen is legal.
         ensures legal { KnowsLegal M.reply_of (pass_of self.new) }
+        // The caller's own entries in it are those before.
         ensures mine { mine (pass_of self.new) ≡ mine (pass_of self.old) }
-        // What the pass knows of the tickets is unchanged.
+        // What the caller knows of the tickets is unchanged.
         ensures draws_none { (next_reached (pass_of self.new) ≡ next_reached (pass_of self.old))
             × (serving_reached (pass_of self.new) ≡ serving_reached (pass_of self.old)) }
+        // The number of calls is the length of the log that the caller has then seen.
         ensures calls { result.calls ≡ length (seen (pass_of self.new)) }
+        // The fault is that of this log.
         ensures fault { IfSome (pass_setup (pass_of self.new))
             (λ s. result.fault ≡ M.fault_of s (seen (pass_of self.new))) }
     {
@@ -176,16 +220,24 @@ impl<M: Journal> Caller<M> {
     /// Shares what two callers of one lock know, as `TicketLock::meet` does with their passes, at the same cost. Does
     /// not wait and cannot fail.
     pub fn meet(self, other: Caller<M>) -> (Caller<M>, Caller<M>, u32)
+        // Both callers belong to one lock.
         requires one_lock { AreOfOneLock (pass_of self ∷ pass_of other ∷ []) }
+        // The first caller keeps its number, lock and setup, and has seen no less than before.
         ensures first { IsSamePass (pass_of self) (pass_of result.0) }
+        // The second caller keeps its number, lock and setup, and has seen no less than before.
         ensures second { IsSamePass (pass_of other) (pass_of result.1) }
+        // The own entries of the first caller are those before.
         ensures mine_first { mine (pass_of result.0) ≡ mine (pass_of self) }
+        // The own entries of the second caller are those before.
         ensures mine_second { mine (pass_of result.1) ≡ mine (pass_of other) }
+        // Both have then seen one log.
         ensures one_log { seen (pass_of result.1) ≡ seen (pass_of result.0) }
+        // That log is legal.
         ensures legal { KnowsLegal M.reply_of (pass_of result.0) × KnowsLegal M.reply_of (pass_of result.1) }
-        // Of the tickets, each knows what either knew.
+        // Of the tickets, each caller then knows exactly what either knew.
         ensures draws_none { KnowsWhatEitherKnew (pass_of self) (pass_of other) (pass_of result.0)
             × KnowsWhatEitherKnew (pass_of self) (pass_of other) (pass_of result.1) }
+        // The returned number is the length of that log.
         ensures calls { result.2 ≡ length (seen (pass_of result.0)) }
     {
         let Caller { lock, pass } = self;
@@ -208,11 +260,18 @@ impl<M: Journal> Caller<M> {
     ///
     /// `Shared`, with this caller, if other callers of the lock exist; `Unsettled` if a drawn ticket was not served.
     pub fn close(self) -> Result<M, CloseFault<M>>
+        // The returned journal has the setup of the caller.
         ensures setup { IfOk result (λ m. pass_setup (pass_of self) ≡ Some (M.setup m)) }
+        // The log of the returned journal is legal.
         ensures legal { IfOk result (λ m. IsLegal (M.reply_of (M.setup m)) (M.log m)) }
+        // It begins with the log that the caller had seen.
         ensures begins { IfOk result (λ m. BeginsWith (M.log m) (seen (pass_of self))) }
+        // It has exactly the caller's own entries under its number.
         ensures mine { IfOk result (λ m. entries_of (number_of (pass_of self)) (M.log m) ≡ mine (pass_of self)) }
+        // `Shared` returns this caller, with its pass and its lock.
         ensures handed_back { IfErr result (λ f. HandsBack f self) }
+        // `Unsettled` reports two numbers, the first less than the second, and neither less than what the caller knew
+        // of the tickets.
         ensures unsettled { IfErr result (λ f. TellsUnsettled f (pass_of self)) }
     {
         let Caller { lock, pass } = self;

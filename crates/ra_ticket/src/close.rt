@@ -48,12 +48,19 @@ impl<M: Journal> TicketLock<M> {
     ///
     /// `Unsettled`, with the two words, if a drawn ticket was not served. The journal is then dropped.
     pub fn close(self, pass: Pass<M>) -> Result<M, Unsettled>
+        // The pass belongs to this lock.
         requires own { IsPassOf self pass }
+        // The returned journal has the setup of the pass.
         ensures setup { IfOk result (λ m. pass_setup pass ≡ Some (M.setup m)) }
+        // The log of the returned journal is legal.
         ensures legal { IfOk result (λ m. IsLegal (M.reply_of (M.setup m)) (M.log m)) }
+        // It begins with the log that the pass had seen.
         ensures begins { IfOk result (λ m. BeginsWith (M.log m) (seen pass)) }
+        // It has exactly the pass's own entries under its number.
         ensures mine { IfOk result (λ m. entries_of (number_of pass) (M.log m) ≡ mine pass) }
+        // `Unsettled` reports two numbers, the first less than the second.
         ensures unsettled { IfErr result (λ u. u.serving < u.next) }
+        // Neither number is less than what the pass knew of the tickets.
         ensures reached { IfErr result (λ u. (serving_reached pass ≤ u.serving) × (next_reached pass ≤ u.next)) }
     {
         let TicketLock { table } = self;

@@ -50,14 +50,20 @@ impl<M: Journal> TicketLock<M> {
     ///
     /// O(1): one atomic load.
     pub fn glance(&self, pass: &mut Pass<M>) -> Glance
+        // The pass belongs to this lock.
         requires own { IsPassOf self.now pass.old }
+        // The pass keeps its number, lock and setup, and knows no less of the tickets and of the log than before.
         ensures pass { IsSamePass pass.old pass.new }
+        // The log that the pass has then seen is legal.
         ensures legal { KnowsLegal M.reply_of pass.new }
+        // The pass's own entries in it are those before.
         ensures mine { mine pass.new ≡ mine pass.old }
         // What the pass knows of the tickets is unchanged.
         ensures draws_none { (next_reached pass.new ≡ next_reached pass.old)
             × (serving_reached pass.new ≡ serving_reached pass.old) }
+        // The number of calls is the length of the log that the pass has then seen.
         ensures calls { result.calls ≡ length (seen pass.new) }
+        // The fault is that of this log.
         ensures fault { IfSome (pass_setup pass.new) (λ s. result.fault ≡ M.fault_of s (seen pass.new)) }
     {
         let mark = look_at_mark(&self.table.shared, &mut pass.seat);

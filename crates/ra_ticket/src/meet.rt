@@ -80,15 +80,23 @@ impl<M: Journal> TicketLock<M> {
     ///
     /// O(1): three atomic loads.
     pub fn meet(&self, first: Pass<M>, second: Pass<M>) -> (Pass<M>, Pass<M>, u32)
+        // Both passes belong to this lock.
         requires own { IsPassOf self.now first × IsPassOf self.now second }
+        // The first pass keeps its number, lock and setup, and has seen no less than before.
         ensures first { IsSamePass first result.0 }
+        // The second pass keeps its number, lock and setup, and has seen no less than before.
         ensures second { IsSamePass second result.1 }
+        // The own entries of the first pass are those before.
         ensures mine_first { mine result.0 ≡ mine first }
+        // The own entries of the second pass are those before.
         ensures mine_second { mine result.1 ≡ mine second }
+        // Both have then seen one log.
         ensures one_log { seen result.1 ≡ seen result.0 }
+        // That log is legal.
         ensures legal { KnowsLegal M.reply_of result.0 × KnowsLegal M.reply_of result.1 }
-        // Of the tickets, each pass knows what either knew.
+        // Of the tickets, each pass then knows exactly what either knew.
         ensures draws_none { KnowsWhatEitherKnew first second result.0 × KnowsWhatEitherKnew first second result.1 }
+        // The returned number is the length of that log.
         ensures calls { result.2 ≡ length (seen result.0) }
     {
         let board = &self.table.shared;

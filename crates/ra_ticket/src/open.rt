@@ -97,14 +97,23 @@ impl<M: Journal> TicketLock<M> {
         passes: u8,
         first: u64,
     ) -> Result<(TicketLock<M>, Vec<Pass<M>>), OpenFault<M>>
+        // The journal's log is empty.
         requires { M.log state ≡ [] }
+        // After success there is the given number of passes, numbered from 0 in the list's order.
         ensures numbers { IfOk result (λ l. map number_of l.1.items ≡ range_with_len 0 passes) }
+        // All passes belong to the returned lock.
         ensures own { IfOk result (λ l. All (IsPassOf l.0) l.1.items) }
+        // Each pass knows that the next ticket to draw is `first` or later.
         ensures next { IfOk result (λ l. All (λ p. next_reached p ≡ first) l.1.items) }
+        // Each pass knows that the ticket being served is `first` or later.
         ensures serving { IfOk result (λ l. All (λ p. serving_reached p ≡ first) l.1.items) }
+        // Each pass has the setup of the journal.
         ensures setup { IfOk result (λ l. All (λ p. pass_setup p ≡ Some (M.setup state)) l.1.items) }
+        // No pass has seen an entry.
         ensures seen { IfOk result (λ l. All (λ p. seen p ≡ []) l.1.items) }
+        // Outside 1 to 64 passes, the call returns `BadPasses` with the journal.
         ensures bad_passes { (passes ≡ 0) ⊎ (MOST_PASSES < passes) → result ≡ Err (OpenFault.BadPasses state) }
+        // From 1 to 64 passes, the only error is `NoMemory`.
         ensures else_no_memory { 0 < passes → passes ≤ MOST_PASSES → IsOkUnless result OpenFault.NoMemory }
     {
         if passes == 0 || passes > MOST_PASSES {

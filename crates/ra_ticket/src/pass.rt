@@ -22,7 +22,9 @@ impl<M: Journal> Pass<M> {
 
     /// Returns its index in the list that `open` returned, from 0. Every pass has a setup.
     pub fn number(&self) -> u8
+        // The result is the pass's number.
         ensures number { result ≡ number_of self.now }
+        // The pass has a setup.
         ensures setup { HasSetup self.now }
     {
         self.number
