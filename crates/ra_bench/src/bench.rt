@@ -45,12 +45,15 @@ pub fn run_bench<R: Threads + Wait + Sync, G: Gate + Sync>(
     rounds: u32,
     gate: &G,
 ) -> Result<BenchReport, BenchFault>
+    // `BadReplicas` is returned exactly if the number of replicas is not from 1 to 16.
     ensures bad_replicas { IsErrOf result BenchFault.BadReplicas ↔ (AreBenchReplicas replicas → ⊥) }
+    // `BadRounds` is returned exactly if the number of replicas is allowed and that of rounds is not from 1 to 1,000.
     ensures bad_rounds { IsErrOf result BenchFault.BadRounds
         ↔ (AreBenchReplicas replicas × (AreRounds rounds → ⊥)) }
-    // The report is that of the closed desk's log.
+    // There is a legal log of a monitor of this kind with this number of replicas, without rejected commands, whose
+    // counts the report states. Its last call is a `verdict`, and the report states the reply.
     ensures report { IfOk result (λ report. IsReportOfRun kind replicas report) }
-    // The reply that an error carries is none that honest replicas receive.
+    // If an error carries a reply, it is neither `Ok` nor `Got`, the only replies that honest replicas receive.
     ensures answered { IfErr result IsUnexpectedReply }
 {
     run_bench_with(rt, alloc, kind, replicas, rounds, None, gate)
@@ -70,10 +73,15 @@ pub fn run_bench_with<R: Threads + Wait + Sync, G: Gate + Sync>(
     lie: Option<Lie>,
     gate: &G,
 ) -> Result<BenchReport, BenchFault>
+    // `BadReplicas` is returned exactly if the number of replicas is not from 1 to 16.
     ensures bad_replicas { IsErrOf result BenchFault.BadReplicas ↔ (AreBenchReplicas replicas → ⊥) }
+    // `BadRounds` is returned exactly if the number of replicas is allowed and that of rounds is not from 1 to 1,000.
     ensures bad_rounds { IsErrOf result BenchFault.BadRounds
         ↔ (AreBenchReplicas replicas × (AreRounds rounds → ⊥)) }
+    // There is a legal log of a monitor of this kind with this number of replicas, without rejected commands, whose
+    // counts the report states. Its last call is a `verdict`, and the report states the reply.
     ensures report { IfOk result (λ report. IsReportOfRun kind replicas report) }
+    // If an error carries a reply, it is neither `Ok` nor `Got`, the only replies that honest replicas receive.
     ensures answered { IfErr result IsUnexpectedReply }
 {
     if replicas < 1 || replicas > MOST_BENCH_REPLICAS {

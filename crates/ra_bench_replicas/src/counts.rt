@@ -23,6 +23,7 @@ impl Model for Counts {
 impl Counts {
     /// Creates the list of these counts. Does not allocate.
     pub fn new(counts: Vec<u32>) -> Counts
+        // The list has exactly the given counts.
         ensures { result ≡ counts.items }
     {
         Counts { counts }
@@ -47,6 +48,7 @@ impl Counts {
 
     /// Returns the counts.
     pub fn as_slice(&self) -> &[u32]
+        // The slice has exactly the counts of the list.
         ensures { result.now ≡ self.now }
     {
         &self.counts

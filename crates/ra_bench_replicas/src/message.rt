@@ -37,6 +37,7 @@ impl Message {
     ///
     /// O(total length of its lists).
     pub fn copy(&self) -> Result<Message, NoMemory>
+        // The copy equals the message.
         ensures { IfOk result (λ copy. copy ≡ self.now) }
     {
         let made = Made {

@@ -52,6 +52,8 @@ impl Replica {
     ///
     /// `NoMemory` if an allocation fails.
     pub fn new(alloc: Global, kind: Kind, number: u8, replicas: u8) -> Result<Replica, NoMemory>
+        // The replica has this kind, number and number of replicas. It has applied no update, seen no clock, and holds
+        // no message.
         ensures { IfOk result (λ replica. replica ≡ new_replica kind number replicas) }
     {
         Ok(Replica {
@@ -66,6 +68,7 @@ impl Replica {
 
     /// Returns its number.
     pub fn number(&self) -> u8
+        // The result is the replica's number.
         ensures { result ≡ self.now.number }
     {
         self.number
@@ -77,13 +80,21 @@ impl Replica {
     ///
     /// `NoMemory` if an allocation fails; the replica's view is then unchanged.
     pub fn update(&mut self, round: u32) -> Result<Made, NoMemory>
+        // The monitor does not reject the update for its form.
         ensures fits { IfOk result (λ made.
             form_refusal self.old.kind (Operate self.old.number made.op made.clock) ≡ None) }
+        // The operation is an update.
         ensures update { IfOk result (λ made. is_update made.op ≡ true) }
+        // The update is one that this replica may make in this round: its number, its element and whether it may remove
+        // are those of the turn.
         ensures turn { IfOk result (λ made. is_of_turn (turn_of self.old round) made.op ≡ true) }
+        // The update carries the next clock if it needs a stamp, and none otherwise.
         ensures clock { IfOk result (λ made. made.clock ≡ clock_of self.old made.op) }
+        // The message states the updates applied before this one.
         ensures had { IfOk result (λ made. made.had ≡ self.old.applied) }
+        // The replica has applied one more update of its own, and has seen this clock.
         ensures ok { IfOk result (λ made. self.new ≡ with_update self.old self.old.number made.clock) }
+        // If allocation fails, kind, number, clock, counts and held messages are unchanged.
         ensures err { OnErr result (self.new ≡ self.old) }
     {
         let had = self.applied.copy()?;
@@ -112,7 +123,9 @@ impl Replica {
     ///
     /// `NoMemory` if an allocation fails.
     pub fn read(&self) -> Result<Op, NoMemory>
+        // The monitor does not reject the query for its form.
         ensures fits { IfOk result (λ op. form_refusal self.now.kind (Operate self.now.number op None) ≡ None) }
+        // The operation is a query.
         ensures query { IfOk result (λ op. is_update op ≡ false) }
     {
         self.data.read()
@@ -124,7 +137,9 @@ impl Replica {
     ///
     /// `NoMemory` if an allocation fails; the replica's view is then unchanged.
     pub fn hold(&mut self, message: Message) -> Result<(), NoMemory>
+        // The message is held behind the others, and nothing else changed.
         ensures ok { OnOk result (self.new ≡ with_held self.old (self.old.held ++ message ∷ [])) }
+        // If allocation fails, kind, number, clock, counts and held messages are unchanged.
         ensures err { OnErr result (self.new ≡ self.old) }
     {
         self.held.push(message)?;
@@ -133,6 +148,7 @@ impl Replica {
 
     /// Returns the number of messages that it holds.
     pub fn held(&self) -> usize
+        // The result is the number of held messages.
         ensures { result ≡ length self.now.held }
     {
         self.held.len()
@@ -149,8 +165,11 @@ impl Replica {
     ///
     /// One comparison of counts for each held message.
     pub fn apply_next(&mut self) -> Result<Option<u32>, NoMemory>
+        // The result is the label of the first held message whose causes are all applied, or `None` if there is none.
         ensures label { IfOk result (λ label. label ≡ option_map (λ message. message.label) (ready_message self.old)) }
+        // This message is applied and held no longer; without one, nothing changed.
         ensures ok { OnOk result (self.new ≡ with_next self.old) }
+        // If allocation fails, kind, number, clock, counts and held messages are unchanged.
         ensures err { OnErr result (self.new ≡ self.old) }
     {
         let Some(place) = self.ready_place() else {

@@ -26,16 +26,20 @@ pub fn run<R: Read, W: Write, E: Write>(
     out: &mut W,
     err: &mut E,
 ) -> Ending
-    // Other arguments read nothing, write nothing but one line on the error writer, and end with status 2.
+    // For arguments that ask for no check, nothing is read.
     ensures unread { report_asked_by words.now ≡ None → reader.new ≡ reader.old }
+    // For arguments that ask for no check, nothing is written on `out`.
     ensures unwritten { report_asked_by words.now ≡ None → out.new ≡ out.old }
+    // For arguments that ask for no check, the status is 2, and `err` received the line `usage`, or `no memory`, if the
+    // ending says that it was written.
     ensures usage { report_asked_by words.now ≡ None →
         StopsProgram result (E.contents err.old) (E.contents err.new) (stop_words words.now) }
-    // The arguments of a check check a text, with the status of the table. Without an error nothing is written on
-    // `err`.
+    // For the arguments of a check, the contract of `run_check` holds: the output and the status are those of the check
+    // of the text.
     ensures checked { (report : Bool) → report_asked_by words.now ≡ Some report →
         ChecksText report result (R.remaining reader.old) (R.remaining reader.new)
         (W.contents out.old) (W.contents out.new) (E.contents err.old) (E.contents err.new) }
+    // For the arguments of a check, nothing is written on `err` unless the status is 2.
     ensures silent { (report : Bool) → report_asked_by words.now ≡ Some report → result.status ≢ 2 →
         err.new ≡ err.old }
 {

@@ -35,8 +35,11 @@ pub enum Run {
 /// `check --report`, or `bench --kind K --replicas N --rounds M`. K is the word of a kind. N and M are decimal numbers
 /// without leading zeros, N up to 255 and M up to 4,294,967,295. Does not allocate.
 pub fn run_of(words: &[&str]) -> Option<Run>
+    // The result is the run that the table of arguments assigns to these arguments, or `None`.
     ensures table { result ≡ run_named (texts_of words.now) }
+    // If the result is a run, the arguments are those for it, and its numbers fit their types.
     ensures found { IfSome result (AskFor (texts_of words.now)) }
+    // For the arguments of a run, the result is that run.
     ensures only { (run : Run) → AskFor (texts_of words.now) run → result ≡ Some run }
 {
     named(words)
@@ -125,6 +128,7 @@ fn byte_of(word: &str) -> Option<u8>
 
 /// Returns the run that the arguments ask for, as `run_of` does, for owned strings.
 pub fn run_of_kept(words: &[String]) -> Option<Run>
+    // The result is the run that the table of arguments assigns to these arguments, or `None`.
     ensures { result ≡ run_named (map string_bytes words.now) }
 {
     match words {

@@ -24,8 +24,11 @@ pub fn run_check<R: Read, W: Write, E: Write>(
     out: &mut W,
     err: &mut E,
 ) -> Ending
+    // The contract of `check` holds of what was read and written, and the exit status is that of its result. If
+    // requested, the report's line follows the output, and after an error its line is on `err` if the ending says so.
     ensures checked { ChecksText report result (R.remaining reader.old) (R.remaining reader.new)
         (W.contents out.old) (W.contents out.new) (E.contents err.old) (E.contents err.new) }
+    // Unless the status is 2, nothing is written on `err`.
     ensures silent { result.status ≢ 2 → err.new ≡ err.old }
 {
     let answer = check(alloc, reader, out);

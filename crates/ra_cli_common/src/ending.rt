@@ -17,6 +17,7 @@ pub struct Ending {
 
 /// Writes the line `usage`, for arguments that ask for no run, and returns the status of an error.
 pub fn usage<E: Write>(err: &mut E) -> Ending
+    // The status is 2, and `err` received the line `usage` if the ending says that it was written.
     ensures { StopsProgram result (E.contents err.old) (E.contents err.new) (codes "usage") }
 {
     Ending {
@@ -27,6 +28,7 @@ pub fn usage<E: Write>(err: &mut E) -> Ending
 
 /// Writes the error's line, and returns the status of an error.
 pub fn stop<E: Write>(err: &mut E, fault: CheckFault) -> Ending
+    // The status is 2, and `err` received the error's line if the ending says that it was written.
     ensures { StopsProgram result (E.contents err.old) (E.contents err.new) (check_fault_words fault) }
 {
     Ending {

@@ -16,6 +16,7 @@ use std::alloc::{AllocError, Global};
 ///
 /// `NoMemory` if an allocation fails.
 pub fn report_json(alloc: Global, report: &Report) -> Result<String, NoMemory>
+    // After success, the text is the report's JSON object, byte for byte.
     ensures { IfOk result (λ text. string_bytes text ≡ report_object report.now) }
 {
     let value = value_of(alloc, report)?;

@@ -21,7 +21,9 @@ pub fn write_report<W: Write>(
     report: &Report,
     writer: &mut W,
 ) -> Result<(), CheckFault>
+    // After success, exactly the report's object and a line feed were written.
     ensures written { OnOk result (Appends (W.contents writer.old) (W.contents writer.new) (report_line report.now)) }
+    // After `NoMemory` nothing was written, and after `Write` a proper prefix of the line. No other error occurs.
     ensures stopped { IfErr result (StopsLine (report_line report.now)
         (W.contents writer.old) (W.contents writer.new)) }
 {

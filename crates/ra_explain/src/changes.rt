@@ -43,6 +43,8 @@ pub fn would_hold(
     place: u32,
     change: Change,
 ) -> Result<bool, NoMemory>
+    // The result is `true` exactly if the single-threaded monitor would answer the label `Ok` after the accepted
+    // commands before it, with the change.
     ensures { IfOk result (λ holds. holds ≡ would_hold setup.now log.now place change) }
 {
     let Some(entry) = log.get(place as usize) else {
@@ -67,6 +69,7 @@ pub fn changes_that_help(
     place: u32,
     changes: &[Change],
 ) -> Result<Vec<Change>, NoMemory>
+    // The result has exactly those of the given changes with which the label would hold, in their order.
     ensures { IfOk result (λ found. found.items
         ≡ filter (λ change. would_hold setup.now log.now place change) changes.now) }
 {
@@ -95,6 +98,8 @@ pub fn got_last(
     log: &[Entry<Command, Reply>],
     replica: u8,
 ) -> Result<Vec<usize>, NoMemory>
+    // The result has exactly the indices of the replica's accepted deliveries since its last label, its own join or the
+    // last join from it, oldest first.
     ensures { IfOk result (λ got. got.items ≡ got_last replica log.now) }
 {
     let mut got = Vec::new(alloc);

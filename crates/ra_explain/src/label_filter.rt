@@ -46,7 +46,10 @@ pub fn find_labels(
     places: &Places,
     sort: LabelFilter,
 ) -> Result<Vec<u32>, NoMemory>
+    // The places are those of the labels in the monitor's log.
     requires { places.now ≡ places_in monitor.now.log }
+    // The result has exactly the labels that pass the filter, in ascending order: updates that a replica lacks, or
+    // labels delivered to it with a greater stamp.
     ensures { IfOk result (λ labels. labels.items ≡ find_labels monitor.now.setup monitor.now.log sort) }
 {
     let log = monitor.log();
@@ -105,6 +108,8 @@ pub fn labels_with(
     places: &Places,
     sort: LabelsWith,
 ) -> Result<Vec<u32>, NoMemory>
+    // The result has exactly the labels at the given places that insert the element, carry the stamp or give the
+    // identifier, in ascending order.
     ensures { IfOk result (λ labels. labels.items ≡ labels_with log.now places.now sort) }
 {
     let mut found = Vec::new(alloc);

@@ -38,6 +38,7 @@ impl Places {
     ///
     /// O(number of entries), and 4 bytes for each label.
     pub fn of(alloc: Global, monitor: &Monitor) -> Result<Places, NoMemory>
+        // The places are the indices of the labels in the monitor's log, by their numbers.
         ensures { IfOk result (λ places. places ≡ places_in monitor.now.log) }
     {
         let log = monitor.log();
@@ -56,6 +57,7 @@ impl Places {
 
     /// Returns the number of labels.
     pub fn count(&self) -> u32
+        // The result is the number of labels.
         ensures { result ≡ length self.now }
     {
         self.places.len() as u32
@@ -67,6 +69,7 @@ impl Places {
         log: &'a [Entry<Command, Reply>],
         label: u32,
     ) -> Option<&'a Entry<Command, Reply>>
+        // The result is the entry of the log at the label's place, or `None` exactly if there is no such label.
         ensures { MatchOption result (entry_at log.now self.now label ≡ None)
             (λ entry. entry_at log.now self.now label ≡ Some entry.now) }
     {
@@ -75,6 +78,7 @@ impl Places {
 
     /// Returns the index of the label, from 0, or `None` if there is no such label.
     pub fn at(&self, label: u32) -> Option<u32>
+        // The result is the index of the label's entry, or `None` if there is no such label.
         ensures { result ≡ slice_get self.now label }
     {
         self.places.get(label as usize).copied()

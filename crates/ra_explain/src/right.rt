@@ -25,6 +25,9 @@ use std::alloc::Global;
 ///
 /// One pass over the log, and the cost of the named sequence and of the specification. Nothing is cached.
 pub fn right_answer(alloc: Global, monitor: &Monitor) -> Result<Option<Op>, NoMemory>
+    // The result is the violating operation with the specification's answer, after the updates delivered to its replica
+    // in the named order. It is `None` if there is no fault, if its cause is not the query, or if those updates are not
+    // admitted.
     ensures answer { IfOk result (λ answer. answer ≡ right_answer_in monitor.now.setup monitor.now.log) }
 {
     let Some(fault) = monitor.report().fault else {

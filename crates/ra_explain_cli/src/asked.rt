@@ -21,6 +21,7 @@ pub enum Form {
 /// Returns the form that the arguments after the program's name ask for, or `None` for any other arguments: `explain`
 /// alone, or with `--json`, `--svg`, `--html` or `--sequence`.
 pub fn form_of(words: &[String]) -> Option<Form>
+    // The result is the form that the table of arguments assigns to these arguments, or `None`.
     ensures { result ≡ form_named (map string_bytes words.now) }
 {
     match words {

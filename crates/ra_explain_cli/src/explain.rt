@@ -28,8 +28,11 @@ pub fn explain<R: Read, W: Write, E: Write>(
     out: &mut W,
     err: &mut E,
 ) -> Ending
+    // If the check of the text succeeds, all of it is read and its explanation is written with the check's status, as
+    // plain text beginning with its end line. Otherwise, and after a failed write or allocation, the status is 2.
     ensures explained { ExplainsText form result (R.remaining reader.old) (R.remaining reader.new)
         (W.contents out.old) (W.contents out.new) (E.contents err.old) (E.contents err.new) }
+    // Unless the status is 2, nothing is written on `err`.
     ensures silent { result.status ≢ 2 → err.new ≡ err.old }
 {
     let mut session = Session::new(alloc);

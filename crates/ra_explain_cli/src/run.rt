@@ -26,15 +26,20 @@ pub fn run<R: Read, W: Write, E: Write>(
     out: &mut W,
     err: &mut E,
 ) -> Ending
-    // Other arguments read nothing, write nothing but one line on the error writer, and end with status 2.
+    // For arguments that ask for no explanation, nothing is read.
     ensures unread { form_asked_by words.now ≡ None → reader.new ≡ reader.old }
+    // For arguments that ask for no explanation, nothing is written on `out`.
     ensures unwritten { form_asked_by words.now ≡ None → out.new ≡ out.old }
+    // For arguments that ask for no explanation, the status is 2, and `err` received the line `usage`, or `no memory`,
+    // if the ending says that it was written.
     ensures usage { form_asked_by words.now ≡ None →
         StopsProgram result (E.contents err.old) (E.contents err.new) (stop_words words.now) }
-    // The arguments of a form explain a text, with the status of its check.
+    // For the arguments of a form, the contract of `explain` holds: the text is checked and explained, with the status
+    // of its check.
     ensures explained { (form : Form) → form_asked_by words.now ≡ Some form →
         ExplainsText form result (R.remaining reader.old) (R.remaining reader.new)
         (W.contents out.old) (W.contents out.new) (E.contents err.old) (E.contents err.new) }
+    // For the arguments of a form, nothing is written on `err` unless the status is 2.
     ensures silent { (form : Form) → form_asked_by words.now ≡ Some form → result.status ≢ 2 →
         err.new ≡ err.old }
 {

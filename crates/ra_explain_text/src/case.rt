@@ -34,6 +34,7 @@ pub struct Source {
 impl<'a> Case<'a> {
     /// Creates the history with these facts, whose replicas have these names.
     pub fn of(told: &'a Told, names: &'a Names) -> Case<'a>
+        // The case has the log of the given facts.
         ensures { result.log.now ≡ told.now.log.items }
     {
         Case {
@@ -45,6 +46,7 @@ impl<'a> Case<'a> {
 
     /// Returns the entry at this index of the log, or `None` if there is none.
     pub fn entry(&self, place: u32) -> Option<&'a Entry<Command, Reply>>
+        // The result is the entry at this index of the log, or `None` exactly if there is none.
         ensures { MatchOption result (slice_get self.now.log.now place ≡ None)
             (λ entry. slice_get self.now.log.now place ≡ Some entry.now) }
     {

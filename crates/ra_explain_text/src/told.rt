@@ -75,6 +75,7 @@ impl Told {
     /// One step for each entry of the log and one lookup for each label. If the purpose needs what replicas lack, also
     /// one lookup for each label and replica.
     pub fn by(alloc: Global, monitor: Monitor, purpose: Purpose) -> Result<Told, NoMemory>
+        // The facts contain the log of the given monitor.
         ensures { IfOk result (λ told. told.log.items ≡ monitor.log) }
     {
         let places = Places::of(alloc, &monitor)?;

@@ -29,6 +29,7 @@ pub fn bench_line(
     rounds: u32,
     report: &BenchReport,
 ) -> Result<String, NoMemory>
+    // After success, the text is the bench's line, byte for byte, without a line feed.
     ensures { IfOk result (λ line. string_bytes line ≡ bench.bench_words kind replicas rounds report.now) }
 {
     let asked = asked_words(alloc, kind, replicas, rounds)?;
@@ -75,6 +76,8 @@ pub fn end_bench<W: Write, E: Write>(
     out: &mut W,
     err: &mut E,
 ) -> Ending
+    // For a report, the bench's line is written and the status is 0 for the verdict `yes` and 1 otherwise, or a failed
+    // write is reported with status 2. For an error, nothing is written on `out` and `bench fault` is reported.
     ensures { EndsBench kind replicas rounds answer result (W.contents out.old) (W.contents out.new)
         (E.contents err.old) (E.contents err.new) }
 {

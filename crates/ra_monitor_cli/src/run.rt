@@ -32,22 +32,29 @@ pub fn run<R: Read, W: Write, E: Write, B: FnOnce(Kind, u8, u32) -> BenchAnswer>
     out: &mut W,
     err: &mut E,
 ) -> Ending
+    // The closure can be called with any arguments.
     requires { B.IsAlwaysCallable bench }
-    // Other arguments read nothing, write nothing but one line on the error writer, and end with status 2.
+    // For arguments that ask for nothing, nothing is read.
     ensures unread { asked_by words.now ≡ None → reader.new ≡ reader.old }
+    // For arguments that ask for nothing, nothing is written on `out`.
     ensures unwritten { asked_by words.now ≡ None → out.new ≡ out.old }
+    // For arguments that ask for nothing, the status is 2, and `err` received the line `usage`, or `no memory`, if the
+    // ending says that it was written.
     ensures usage { asked_by words.now ≡ None →
         StopsProgram result (E.contents err.old) (E.contents err.new) (stop_words words.now) }
-    // The arguments of a check check a text, with the status of the table. Without an error nothing is written on
-    // `err`.
+    // For the arguments of a check, the contract of `run_check` holds: the output and the status are those of the check
+    // of the text.
     ensures checked { (report : Bool) → asked_by words.now ≡ Some (Check report) →
         ChecksText report result (R.remaining reader.old) (R.remaining reader.new)
         (W.contents out.old) (W.contents out.new) (E.contents err.old) (E.contents err.new) }
+    // For the arguments of a check, nothing is written on `err` unless the status is 2.
     ensures silent { (report : Bool) → asked_by words.now ≡ Some (Check report) → result.status ≢ 2 →
         err.new ≡ err.old }
-    // The arguments of a bench read nothing, and write its line or that of its error.
+    // For the arguments of a bench, nothing is read.
     ensures unasked { (kind : Kind) (replicas rounds : ℕ) → asked_by words.now ≡ Some (Bench kind replicas rounds) →
         reader.new ≡ reader.old }
+    // For the arguments of a bench, the closure answered for just this kind and these numbers. Its report is written as
+    // the bench's line, or its error is reported as `bench fault`.
     ensures benched { (kind : Kind) (replicas rounds : ℕ) → asked_by words.now ≡ Some (Bench kind replicas rounds) →
         RunsBench (B.post bench kind replicas rounds) kind replicas rounds result
         (W.contents out.old) (W.contents out.new) (E.contents err.old) (E.contents err.new) }
