@@ -1,18 +1,30 @@
-/** The summary of a whole run (docs/FORMAT.md, *The report*). */
+/** The summary of a whole run, as `check --report` prints it. */
 export interface Report {
+  /** The kind of the history. */
   kind: Kind;
+  /** `yes` if the history has no violation, otherwise `no`. */
   verdict: "yes" | "no";
+  /** The number of accepted operations. */
   labels: number;
+  /** The number of commands. */
   calls: number;
+  /** The number of rejected commands. */
   refused: number;
+  /** The first violating label, if there is a violation. */
   label?: number;
+  /** The condition that fails at this label. */
   cause?: Cause;
   /** True if no order at all explains the history up to the label, and not only the named order fails. */
   final?: boolean;
 }
 
+/** The kind of a history: the data type whose specification the monitor checks. */
 export type Kind = "counter" | "register" | "lwwset" | "orset" | "rga";
+/**
+ * The condition that fails at a violation: the order, an update that is not admitted, or a query whose answer is wrong.
+ */
 export type Cause = "order" | "update" | "query";
+/** The clock of a stamp: a whole number. */
 export type Clock = number | bigint;
 /** A clock, or a clock and the replica that made it. */
 export type Stamp = Clock | readonly [Clock, Key];
@@ -28,13 +40,16 @@ export type Key =
 /** A value, or a function that returns it for the result of the act. */
 export type Told<Value, Done = any> = Value | ((done: Done) => Value);
 
+/** The program could not be started, or exited before its input ended. The message has its standard error. */
 export class MonitorExited extends Error {}
+/** The text format cannot represent a value. The message names the value and what to do instead. */
 export class NotRepresentable extends Error {}
 /** @deprecated Use MonitorExited. */
 export { MonitorExited as MonitorGone };
 /** @deprecated Use NotRepresentable. */
 export { NotRepresentable as CannotTell };
 
+/** A report that the program did not accept. */
 export class ReportFailed extends Error {
   /** A description of what the replica did, in the user's names. */
   operation: string;
@@ -44,18 +59,25 @@ export class ReportFailed extends Error {
   history: string;
 }
 
+/** The program found a violation. */
 export class NotLinearizable extends ReportFailed {
+  /** The condition that fails. */
   get cause(): Cause;
 }
 
+/** The program rejected a report. The likely cause is that something was reported wrongly. */
 export class Refused extends ReportFailed {
+  /** The reason of the rejection, such as `not-causal 0`. */
   get cause(): string;
 }
 
+/** A replica of a random run threw an error. */
 export class ReplicaRaised extends ReportFailed {
+  /** The error that the replica threw. */
   cause: unknown;
 }
 
+/** The options of a monitor. */
 export interface MonitorOptions {
   /** The path of the program. The default is that of RA_MONITOR, else the repository's own `ra_monitor`. */
   program?: string;
@@ -63,36 +85,67 @@ export interface MonitorOptions {
   window?: number;
 }
 
+/**
+ * A run of the program on one history. `names` are the names of the initial replicas: a letter a to z, then up to 15
+ * letters a to z or digits.
+ */
 export class Monitor {
   constructor(kind: Kind, names: readonly string[], options?: MonitorOptions);
+  /** The path of the program. */
   readonly program: string;
   /** The first reply that differs from the expected one. */
   readonly unexpected: { command: number; reply: string } | null;
+  /** Sends a command without waiting for its reply. Returns a promise to wait for if the window is full. */
   post(line: string, expected: string): Promise<void> | undefined;
+  /** Sends a command, waits for its reply and returns it. */
   tell(line: string): Promise<string>;
+  /** Returns the reply to `verdict`, which says whether the history so far is explained. */
   verdict(): Promise<string>;
+  /** Waits until each command has its reply. */
   settle(): Promise<void>;
+  /** Returns the text so far, or the header with this number of commands. */
   history(commands?: number): string;
+  /** Ends the input, waits for the program and returns its report. Closing again returns the same report. */
   close(): Promise<Report>;
+  /** Kills the program without waiting for replies. */
   stop(): Promise<void>;
 }
 
 /** An update, as `increment` and the other functions create it. */
 export interface Operation {
+  /** The name of the function that creates it. */
   readonly word: string;
+  /** The element, or the value of a write. */
   readonly value?: unknown;
+  /** The element behind which an insertion stands, or null at the start. */
   readonly anchor?: unknown;
+  /** The stamp of a write, of an LWW set's update or of an insertion. */
   readonly stamp?: Stamp;
+  /** The identifiers that an OR-Set's update adds or removes. */
   readonly identifiers?: readonly Key[];
 }
 
+/** Creates a counter's increment by one. */
 export function increment(): Operation;
+/** Creates a counter's decrement by one. */
 export function decrement(): Operation;
+/** Creates a register's write of this value. */
 export function write(value: unknown, stamp: Stamp): Operation;
+/**
+ * Creates a set's addition of this element, with the stamp of an LWW set or the identifier of an OR-Set. The recorder
+ * chooses an identifier for an OR-Set whose type does not expose one.
+ */
 export function add(element: Key, mark?: { stamp?: Stamp; identifier?: Key }): Operation;
+/**
+ * Creates a removal of this element from a set or a list. An LWW set's removal has a stamp, and an OR-Set's the
+ * identifiers that it removes. If its type does not expose them, the recorder uses those that its replica has observed
+ * according to the reports. Then the monitor does not check which ones it removed.
+ */
 export function remove(element: Key, mark?: { stamp?: Stamp; identifiers?: Iterable<Key> }): Operation;
+/** Creates a list's insertion of this element directly behind the anchor, or at the start if that is null. */
 export function insertAfter(anchor: Key | null, element: Key, stamp: Stamp): Operation;
 
+/** The options of a recorder. */
 export interface RecorderOptions extends MonitorOptions {
   /** The file to which the history is written when a report fails. */
   history?: string;
@@ -100,11 +153,13 @@ export interface RecorderOptions extends MonitorOptions {
   nothing?: unknown;
 }
 
+/** The options of a step. */
 export interface Act<Done> {
   /** What the replica does. It may be asynchronous; later steps wait for it. */
   act?: () => Done | Promise<Done>;
 }
 
+/** The options of an update. */
 export interface Sent<Done> extends Act<Done> {
   /** The key that the update's deliveries name. */
   message?: Told<Key, Done>;
@@ -112,32 +167,55 @@ export interface Sent<Done> extends Act<Done> {
 
 /** The updates that had been delivered to a replica at one moment, as a count for each replica. */
 export interface Seen {
+  /** The replica. */
   readonly replica: Key;
+  /** The number of delivered updates of each replica. */
   readonly counts: readonly number[];
 }
 
+/**
+ * A reporter for replicas with any names, given in the order in which the type breaks ties, lowest first. Each call is
+ * one step: it runs the act and reports it before the act of another call runs, also if the act is asynchronous. The
+ * first report that fails rejects with `NotLinearizable` or `Refused` as soon as its reply has arrived, and so does
+ * each later call. With a `window` of 1 the call itself rejects.
+ */
 export class Recorder {
   constructor(kind: Kind, replicas: readonly Key[], options?: RecorderOptions);
+  /** Reports an update, and returns the result of the act. */
   update<Done>(replica: Key, operation: Told<Operation, Done>, options?: Sent<Done>): Promise<Done>;
+  /** Reports that the replica applies the message of this key. A repeated delivery runs the act alone. */
   deliver<Done>(replica: Key, message: Told<Key, Done>, options?: Act<Done>): Promise<Done>;
+  /** Reports that the replica merges a state, given by its messages or by what another replica had `seen`. */
   merge<Done>(replica: Key, messages: Told<Seen | Iterable<Key>, Done>, options?: Act<Done>): Promise<Done>;
-  /** Reports a join with a copy of the source's state. An impossible join rejects before the act. */
+  /**
+   * Reports that a new replica joins with a copy of the source's state, which the act makes. It is the last replica in
+   * the order of ties. A join that is impossible, because the name exists or there are 64 replicas, rejects with
+   * `NotRepresentable` before the act, and the history continues without it.
+   */
   join<Done>(replica: Key, source: Key, options?: Act<Done>): Promise<Done>;
+  /** Reports a read of this value, or of the value that this function returns. Returns the value. */
   read<Value>(replica: Key, value: Value | (() => Value | Promise<Value>)): Promise<Value>;
+  /** Returns the updates that were delivered to the replica so far, for a `merge` of its current state. */
   seen(replica: Key): Seen;
+  /** Reports a counter's increment by one. */
   increment<Done>(replica: Key, options?: Sent<Done>): Promise<Done>;
+  /** Reports a counter's decrement by one. */
   decrement<Done>(replica: Key, options?: Sent<Done>): Promise<Done>;
+  /** Reports a register's write of this value. */
   write<Done>(replica: Key, value: unknown, stamp: Told<Stamp, Done>, options?: Sent<Done>): Promise<Done>;
+  /** Reports a set's addition, with the `stamp` of an LWW set or the `identifier` of an OR-Set. */
   add<Done>(
     replica: Key,
     element: Key,
     options?: Sent<Done> & { stamp?: Told<Stamp, Done>; identifier?: Told<Key, Done> },
   ): Promise<Done>;
+  /** Reports a removal, with the `stamp` of an LWW set or the `identifiers` of an OR-Set. */
   remove<Done>(
     replica: Key,
     element: Key,
     options?: Sent<Done> & { stamp?: Told<Stamp, Done>; identifiers?: Told<Iterable<Key>, Done> },
   ): Promise<Done>;
+  /** Reports a list's insertion directly behind the anchor, or at the start if that is null. */
   insertAfter<Done>(
     replica: Key,
     anchor: Key | null,
@@ -145,13 +223,34 @@ export class Recorder {
     stamp: Told<Stamp, Done>,
     options?: Sent<Done>,
   ): Promise<Done>;
+  /** Waits for all replies. Rejects with the failure, if there is one. */
   settle(): Promise<void>;
+  /** Ends the history and returns the report. Rejects with the failure, if there is one. */
   close(): Promise<Report>;
+  /** Ends the history without waiting for replies. */
   stop(): Promise<void>;
+  /** Returns the text so far, which `ra_monitor check` reads. */
   history(): string;
 }
 
-/** Tests replicas in random runs, and rejects with the smallest history of the first failure. */
+/**
+ * Tests replicas in random runs, one for each seed, and returns the number of runs.
+ *
+ * `makeReplica(name)` creates a replica. `replicas` are their names in the order in which the type breaks ties, lowest
+ * first, or their number. `operations` is the number of operations of a run. `seeds` are the seeds, or their number,
+ * counted from 0. A replica has the methods of its kind (`increment` and `decrement`, `write(value)`, `add(element)`
+ * and `remove(element)`, or `insertAfter(anchor, element)` and `remove(element)`), `read()`, and `receive(message)`.
+ * They may be asynchronous.
+ *
+ * An update returns the message that the other replicas receive. The message has the `stamp` of a write, of an LWW
+ * set's update or of an insertion, and the `identifier` or `identifiers` of an OR-Set's update if the type exposes
+ * them. A type whose states are merged has `state()` and `merge(state)` instead of `receive`. If a replica has
+ * `fork(name)`, which returns a copy of it under this name, some replicas join during the run.
+ *
+ * Rejects with `NotLinearizable` if a run has a violation, with `Refused` if the program rejected a report, and with
+ * `ReplicaRaised` if a replica threw an error. The failed run is shrunk first. The message has the seed and the small
+ * history, and `history` is its file.
+ */
 export function checkRandom(
   makeReplica: (name: any) => any,
   kind: Kind,

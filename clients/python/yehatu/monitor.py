@@ -21,7 +21,12 @@ STDERR_LINES = 50
 
 
 class Report(NamedTuple):
-    """The summary of a whole run (docs/FORMAT.md, *The report*)."""
+    """The summary of a whole run, as `check --report` prints it.
+
+    `calls` counts the commands, `labels` the accepted operations, and `refused` the rejected commands. For a violation,
+    `label` is the first violating operation and `cause` the condition that fails. `final` says whether no order at all
+    explains the history up to the label, and not only the named order fails.
+    """
 
     kind: str
     verdict: str
@@ -30,7 +35,6 @@ class Report(NamedTuple):
     refused: int
     label: Optional[int] = None
     cause: Optional[str] = None
-    # True if no order at all explains the history up to the label, and not only the named order fails.
     final: Optional[bool] = None
 
 

@@ -4,6 +4,7 @@ import re
 ITEM = re.compile(r"^(?P<indent> *)(?P<pub>pub(?:\([a-z]+\))? )?"
                   r"(?P<what>fn|struct|enum|trait|const|type|mod|use) (?P<name>\w*)(?P<rest>.*)$")
 BLOCK = re.compile(r"^(?:unsafe )?(?:impl|(?:pub )?trait)\b")
+OBLIGATION = re.compile(r"^ *ghost (\w+): \{ \(")
 CLAUSE = re.compile(r"^ *(requires|ensures)\b *(\w*) *\{")
 
 
@@ -83,13 +84,28 @@ class Source:
         return found, is_test
 
     def read_type(self, item, at):
-        """Reads a declaration to its end: the closing brace, or the semicolon."""
+        """Reads a declaration to its end: the closing brace, or the semicolon. A trait's items are read on."""
+        if item.what == "trait":
+            self.read_obligations(item, at)
         first = at
         is_block = item.what in ("struct", "enum", "trait") and not self.lines[at].rstrip().endswith(("}", ";"))
         while not (self.lines[at].startswith("}") if is_block else self.lines[at].rstrip().endswith((";", "}"))):
             at += 1
         item.declaration = "\n".join(self.lines[first : at + 1])
         return first + 1 if item.what == "trait" else at + 1
+
+    def read_obligations(self, item, at):
+        """Reads what every implementation of a trait proves: its ghost members that begin with a bound variable."""
+        while not self.lines[at].startswith("}"):
+            found = OBLIGATION.match(self.lines[at])
+            if found:
+                comment, above = [], at
+                while self.lines[above - 1].strip().startswith("//"):
+                    above -= 1
+                    comment.insert(0, self.lines[above].strip()[3:])
+                text = self.lines[at].strip()
+                item.clauses.append(Clause("obligation", found[1], " ".join(comment), text, at + 1))
+            at += 1
 
     def read_function(self, item, at, indent):
         """Reads a signature and its clauses; the line of the body."""

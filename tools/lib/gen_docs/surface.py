@@ -1,4 +1,4 @@
-"""What a crate shows to its users: the items that its lib.rt (or main.rt) makes public."""
+"""What a crate shows to its users: the items that its lib.rt makes public, or all public ones of a program."""
 import re
 
 from gen_docs.source import Source
@@ -16,7 +16,7 @@ class Crate:
         self.root = source / "lib.rt" if (source / "lib.rt").is_file() else source / "main.rt"
         self.sources = {it: Source(it) for it in sorted(source.rglob("*.rt"))}
         self.reexports = []
-        self.items = list(self.public_of(self.root, source, ""))
+        self.items = list(dict.fromkeys(self.public_of(self.root, source, "")))
 
     def purpose(self):
         """The first sentence of the crate's page: of lib.rt, else of main.rt."""
@@ -33,7 +33,7 @@ class Crate:
         for name, named in USE.findall(text):
             yield from self.used(folder, module, modules, name, [it.strip() for it in named.split(",") if it.strip()])
         for name, is_open in modules.items():
-            if is_open:
+            if is_open or self.root.name == "main.rt":
                 inner = f"{module}::{name}" if module else name
                 yield from self.public_of(file_of(folder, name), folder / name, inner)
 
@@ -46,9 +46,10 @@ class Crate:
             return
         names = named or rest[-1:]
         path = file_of(folder, head)
-        for source in self.files_of(path, folder / head):
+        for source in [*self.files_of(path, folder / head), *self.sources]:
             for item in self.sources[source].items:
-                if is_public(item) and (item.name if not item.owner else item.owner) in names:
+                is_here = source == path or folder / head in source.parents
+                if is_public(item) and (item.owner in names or (is_here and not item.owner and item.name in names)):
                     yield module, source, item
 
     def files_of(self, path, folder):
