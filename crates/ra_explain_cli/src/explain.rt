@@ -28,8 +28,8 @@ pub fn explain<R: Read, W: Write, E: Write>(
     out: &mut W,
     err: &mut E,
 ) -> Ending
-    // If the check of the text succeeds, all of it is read and its explanation is written with the check's status, as
-    // plain text beginning with its end line. Otherwise, and after a failed write or allocation, the status is 2.
+    // If the check of the text succeeds, all of it is read, and a page is written with the check's status; in plain
+    // form it begins with the check's end line. Otherwise, and after a failed write or allocation, the status is 2.
     ensures explained { ExplainsText form result (R.remaining reader.old) (R.remaining reader.new)
         (W.contents out.old) (W.contents out.new) (E.contents err.old) (E.contents err.new) }
     // Unless the status is 2, nothing is written on `err`.

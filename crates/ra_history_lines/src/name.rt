@@ -86,8 +86,8 @@ impl Names {
         ensures names { IfOk result (λ list. list ≡ texts_of names.now) }
         // After success the names are from 1 to 64, valid and distinct.
         ensures good { OnOk result (AreNames Rah2 (texts_of names.now)) }
-        // `BadCount` comes exactly for an empty list or more than 64 names, and otherwise `BadName` for the first
-        // invalid or repeated name. `NoMemory` comes only for valid names.
+        // `BadCount` is returned exactly for an empty list or more than 64 names, and otherwise `BadName` for the first
+        // invalid or repeated name. `NoMemory` is returned only for valid names.
         ensures fault { IfErr result (IsFaultOf (texts_of names.now)) }
     {
         if names.is_empty() || names.len() > MOST_NAMES {
@@ -214,8 +214,8 @@ impl Names {
         ensures added { OnOk result (self.new ≡ self.old ++ name.now ∷ []) }
         // After success, the name was valid and new, and there were fewer than 64 names.
         ensures may { OnOk result (MayJoin Rah2 self.old name.now) }
-        // `BadName(0)` comes exactly for an invalid or repeated name, and otherwise `BadCount` at 64 names. `NoMemory`
-        // comes only for a name that may be added.
+        // `BadName(0)` is returned exactly for an invalid or repeated name, and otherwise `BadCount` at 64 names.
+        // `NoMemory` is returned only for a name that may be added.
         ensures fault { IfErr result (StopsAdding self.old name.now) }
         // After an error, the names are unchanged.
         ensures err { OnErr result (self.new ≡ self.old) }

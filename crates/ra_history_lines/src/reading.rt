@@ -117,8 +117,8 @@ impl Reading {
         requires { HasNames self.old }
         // After success the reading has this name behind the former ones, and nothing else changed.
         ensures added { OnOk result (self.new ≡ with_name self.old name.now) }
-        // `BadName(0)` comes only for an invalid or repeated name, and `BadCount` only for a valid new name at 64
-        // names. `NoMemory` comes only for a name that may be added.
+        // `BadName(0)` is returned only for an invalid or repeated name, and `BadCount` only for a valid new name at 64
+        // names. `NoMemory` is returned only for a name that may be added.
         ensures fault { IfErr result (StopsAdding (names_in self.old) name.now) }
         // After an error, the reading is unchanged.
         ensures err { OnErr result (self.new ≡ self.old) }

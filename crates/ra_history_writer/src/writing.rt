@@ -47,9 +47,9 @@ pub fn write_history<W: Write>(
     ensures as_many { OnOk result (AreAsMany monitor.now names.now) }
     // After success, no command's line is too long.
     ensures short { OnOk result (AreShort names.now (records_in_order monitor.now)) }
-    // `BadNames` comes exactly if the number of names differs from that of the replicas, and otherwise `LineTooLong`
-    // with the index of the first command whose line is too long. After these and `NoMemory` nothing was written, and
-    // after `Write` a proper prefix of such a text.
+    // `BadNames` is returned exactly if the number of names differs from that of the replicas, and otherwise
+    // `LineTooLong` with the index of the first command whose line is too long. After these and `NoMemory` nothing was
+    // written, and after `Write` a proper prefix of such a text.
     ensures stopped { IfErr result
         (StopsWriting monitor.now names.now (W.contents writer.old) (W.contents writer.new)) }
 {

@@ -54,7 +54,7 @@ pub trait Journal: Drop + Send {
     /// Returns the number that identifies the journal's fault, if it has one. It is less than `calls`. For a monitor it
     /// is the label of the fault.
     fn fault(&self) -> Option<u32>
-        // The result is the journal's function of its setup and its log that names the fault.
+        // The result is the number of the fault that the journal's setup and log determine, if there is one.
         ensures fault { result ≡ fault_of (setup self.now) (log self.now) }
         // The number that names a fault is less than the length of the log.
         ensures below { IfSome result (λ f. f < length (log self.now)) };

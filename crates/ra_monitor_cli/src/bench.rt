@@ -76,8 +76,9 @@ pub fn end_bench<W: Write, E: Write>(
     out: &mut W,
     err: &mut E,
 ) -> Ending
-    // For a report, the bench's line is written and the status is 0 for the verdict `yes` and 1 otherwise, or a failed
-    // write is reported with status 2. For an error, nothing is written on `out` and `bench fault` is reported.
+    // For a report, the bench's line is written with status 0 for the verdict `yes` and 1 otherwise, or a failed write
+    // or allocation is reported with status 2. For an error, `bench fault` alone is reported, with status 1 after a
+    // reply `No` and 2 otherwise.
     ensures { EndsBench kind replicas rounds answer result (W.contents out.old) (W.contents out.new)
         (E.contents err.old) (E.contents err.new) }
 {

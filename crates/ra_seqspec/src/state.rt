@@ -107,7 +107,7 @@ impl State {
     /// O(1) for a counter or a register. O(log n) for a set with `n` entries, for each identifier of an OR-Set's
     /// removal. A constant number of hash map operations for an RGA.
     pub fn apply(&mut self, update: &Update) -> Result<bool, NoMemory>
-        // If the update is admitted and the state is a counter's, its number stays in the range up to `FARTHEST_COUNT`.
+        // The update keeps a counter's number between `-FARTHEST_COUNT` and `FARTHEST_COUNT`, if it is admitted.
         requires { IfSome (step_of self.old update.now) IsInRange }
         // The result is `true` exactly if the sequential specification admits the update in this state.
         ensures admitted { IfOk result (λ is_admitted. is_admitted ≡ is_some (step_of self.old update.now)) }

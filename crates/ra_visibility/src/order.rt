@@ -34,7 +34,7 @@ pub trait NamedOrder: Drop + Send {
     /// allocate.
     fn place(&self, label: &Label, seen: &Seen<'_>) -> Place
         // If the label comes next after the history that the order represents, the place is the label's position in the
-        // named order, and `fits` tells whether no later label must precede it.
+        // named order, and `fits` states whether no later label must precede it.
         ensures { (past : History) (next : NextOperation) → stands_for self.now past
             → ComesNext past next label.now seen.now
             → IsPlaceOf past.kind past.records next result };

@@ -14,6 +14,8 @@ The public types and calls of the product crates, from their sources. Most progr
 
 def shown(item):
     """The declaration without what is private: private fields, ghost parts and comments of the implementation."""
+    if item.what == "trait":
+        return trait_of(item.declaration)
     if item.what not in ("struct", "enum"):
         return item.declaration
     lines, hidden = [], False
@@ -26,6 +28,13 @@ def shown(item):
             lines.append(line)
     lines = [it for at, it in enumerate(lines) if not (it.strip().startswith("///") and lines[at + 1] == "}")]
     return "\n".join([*lines[:-1], *(["    // private fields"] if hidden else []), *lines[-1:]])
+
+
+def trait_of(declaration):
+    """A trait without its functions, which are entries of their own: its types, and what contracts see of it."""
+    head, *members = re.split(r"\n\s*\n|(?<=\{)\n(?= )", declaration.removesuffix("\n}"))
+    kept = [it for it in members if not re.search(r"^ *(fn|ghost use) ", it, re.MULTILINE)]
+    return head + "\n" + "\n\n".join(kept) + "\n}"
 
 
 def entry(top, path, item):
