@@ -10,7 +10,8 @@ use std::alloc::AllocError;
 use std::fmt;
 use thiserror::Error;
 
-/// Why a check returns no verdict. Lines count from 1.
+/// Why a check returns no verdict. Lines count from 1. Its text by `Display` is proved to be that of `specs/Faults`
+/// (`check_fault_words`).
 #[derive(Clone, Copy, Debug, PartialEq, Eq, Error)]
 pub enum CheckFault {
     /// The reader failed.
