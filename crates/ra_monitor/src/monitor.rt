@@ -359,7 +359,7 @@ impl Journal for Monitor {
         // An error returns the command to the caller.
         ensures handed_back { IfErr result (λ fault. unstepped fault ≡ command) }
 
-        // With room left, a command that leaves the records unchanged is answered and never fails for lack of memory.
+        // With room left, a command that leaves the records unchanged is answered, and never fails for lack of memory.
         // Such replies are a rejection, a `Yes`, and the `No` of an earlier label.
         ensures settled { 0 < self.old.room
             → records_after self.old.setup.kind self.old.setup.replicas
@@ -367,7 +367,7 @@ impl Journal for Monitor {
             → IsOk result }
         // With room left, each answer uses the room of exactly one entry.
         ensures spent { 0 < self.old.room → OnOk result (self.old.room ≡ self.new.room + 1) }
-        // An error never decreases the room.
+        // After an error, the room is at least what it was.
         ensures kept_room { OnErr result (self.old.room ≤ self.new.room) }
     {
         if self.log.len() == self.setup.limit as usize {

@@ -65,7 +65,7 @@ def page(top, crate):
         text += "\n## Theorems\n\nSee [theorems](../../generated/theorems.md#" + crate.name + ").\n"
     if crate.reexports:
         text += "\n## Re-exported items\n\n" + wrapped(", ".join(f"`{it}`" for it in crate.reexports) + ".")
-    return text + closing(2)
+    return text + "\nAll crates: [Rattle API](index.md). " + closing(2).lstrip("\n")
 
 
 def index(top, crates):
