@@ -1,8 +1,8 @@
 //! The vocabulary shared by all crates: what replicas report, and what the monitor answers.
 //!
 //! The types are kinds, operations, labels, commands and replies. The definitions of their meaning are in `specs/`, and
-//! docs/MODEL.md explains them in words. They comprise the sequential specification, records and visibility, the
-//! rewriting, RA-linearization, the named sequence, the fault, and the single-threaded monitor's answer. They follow
+//! docs/explanation/model.md explains them in words. They comprise the sequential specification, records and visibility,
+//! the rewriting, RA-linearization, the named sequence, the fault, and the single-threaded monitor's answer. They follow
 //! Wang, Enea, Mutluergil and Petri, "Replication-Aware Linearizability" (PLDI 2019).
 //!
 //! Contract for the crates above: `fits` returns the first reason to reject a command because of its own form. Theorems
