@@ -327,6 +327,7 @@ def the_installed_command_has_each_subcommand(repository):
             ran = run_installed(start, words, bare, folder)
             require(ran.status == 0 and "ra_monitor " in ran.wrote and "./ra_monitor" not in ran.wrote, words, ran)
             require("trial" not in ran.wrote and "README" not in ran.wrote, words, ran)
+            require(str(repository.folder) not in ran.wrote, words, ran)
         for name, words in PAGES.items():
             require(run_installed(start, ["help", name], bare, folder).wrote.startswith(words), name)
         require(run_installed(start, ["help", "trial"], bare, folder).refuses("help has no page 'trial'"))
