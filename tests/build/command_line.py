@@ -3,6 +3,7 @@ import os
 import pty
 import re
 import shutil
+import socket
 import subprocess
 
 from assertions import require
@@ -30,41 +31,45 @@ WRONG = [
     ([""], "there is no subcommand ''", "check"),
     (["--json"], "an option stands behind its subcommand: ./ra_monitor explain --json\n", "check"),
     (["--kind=rga"], "an option stands behind its subcommand: ./ra_monitor bench --kind=rga\n", "check"),
-    (["--pdf"], "there is no subcommand '--pdf'\n", "check"),
+    (["--pdf"], "there is no option '--pdf'\n", "check"),
+    (["-v"], "there is no option '-v'; did you mean '-V'?", "check"),
+    (["CHECK"], "there is no subcommand 'CHECK'; did you mean 'check'?", "check"),
+    (["check", "--json"], "check has no option '--json'; explain has it", "check"),
+    (["explain", "--why"], "explain has no option '--why'; check has it", "explain"),
+    (["explain", "--HTML"], "explain has no option '--HTML'; did you mean '--html'?", "explain"),
+    (["explain", "-o", "x"], "explain has no option '-o'; the output is standard output", "explain"),
+    (["bench", "--kind", "--replicas", "3"], "--kind needs a value, but '--replicas' follows", "bench"),
     (["help", "chekc"], "help has no page 'chekc'; did you mean 'check'?", "help"),
     (["help", "pages"], "help has no page 'pages'\n", "help"),
     (["help", ""], "help has no page ''\n", "help"),
     (["help", "check bench"], "help has no page 'check bench'\n", "help"),
-    (["--help", "check", "bench"], "help prints one page, and these are several: check bench", "help"),
-    (["--version", "x"], "--version stands alone", None),
-    (["-V", "x"], "-V stands alone", None),
+    (["--help", "check", "bench"], "help takes one page at a time, not: check bench", "help"),
+    (["--version", "x"], "--version takes no other arguments", None),
+    (["-V", "x"], "-V takes no other arguments", None),
     (["check", "--reports"], "check has no option '--reports'; did you mean '--report'?", "check"),
-    (["check", "--json"], "check has no option '--json'\n", "check"),
-    (["check", "--report=yes"], "--report has no value, and '--report=yes' gives it one", "check"),
+    (["check", "--report=yes"], "--report takes no value; the output is standard output", "check"),
     (["check", "--pdf=yes"], "check has no option '--pdf=yes'\n", "check"),
     (["check", "-r"], "check has no option '-r'", "check"),
     (["check", "one", "other"], "there is more than one file: 'one' and 'other'", "check"),
     (["check", ""], "the name of the file is empty", "check"),
     (["explain", "--pdf"], "explain has no option '--pdf'\n", "explain"),
-    (["explain", "--why"], "explain has no option '--why'\n", "explain"),
     (["explain", "--seq"], "explain has no option '--seq'; did you mean '--sequence'?", "explain"),
     (["explain", "--json", "--json"], "--json is given twice", "explain"),
     (["explain", "--jsno"], "did you mean '--json'?", "explain"),
-    (["explain", "--svg", "--html"], "explain has one form, and these are two: --svg and --html", "explain"),
+    (["explain", "--svg", "--html"], "--sequence, not both --svg and --html", "explain"),
     (["bench"], "--kind is missing", "bench"),
     (["bench", *BENCH[:2]], "--replicas is missing", "bench"),
     (["bench", *BENCH[:4]], "--rounds is missing", "bench"),
     (["bench", *BENCH[:5]], "--rounds has no value", "bench"),
-    (["bench", *BENCH, "x"], "bench has no argument 'x' here: its values stand behind --kind, --replicas, --rounds",
-     "bench"),
+    (["bench", *BENCH, "x"], "bench has no argument 'x': values follow --kind, --replicas, --rounds, as in", "bench"),
     (["bench", *BENCH, "--x"], "bench has no option '--x'\n", "bench"),
     (["bench", "--kidn", "rga"], "did you mean '--kind'?", "bench"),
     (["bench", *BENCH, "--kind", "rga"], "--kind is given twice", "bench"),
     (["bench", "--kind", "", *BENCH[2:]], "the value of --kind is empty", "bench"),
-    (["bench", "--kind", "set", *BENCH[2:]], "KIND is counter, register, lwwset, orset or rga, and not 'set'", "bench"),
-    *((["bench", *BENCH[:3], it, *BENCH[4:]], f"N is a number from 1 to 16, and not '{it}'", "bench")
-      for it in ("0", "17", "256", "03")),
-    *((["bench", *BENCH[:5], it], f"M is a number from 1 to 1000, and not '{it}'", "bench")
+    (["bench", "--kind", "set", *BENCH[2:]], "--kind is counter, register, lwwset, orset or rga, not 'set'", "bench"),
+    *((["bench", *BENCH[:3], it, *BENCH[4:]], f"--replicas is a number from 1 to 16 without a leading zero, not '{it}'",
+       "bench") for it in ("0", "17", "256", "03")),
+    *((["bench", *BENCH[:5], it], f"--rounds is a number from 1 to 1000 without a leading zero, not '{it}'", "bench")
       for it in ("0", "04", "+4", "1001", "4294967296", "99999999999999999999", "-1", "four")),
     (["trial"], "trial is followed by check, explain or bench", "trial"),
     (["trial", "chekc"], "trial is followed by check, explain or bench", "trial"),
@@ -116,9 +121,33 @@ def a_file_is_read_by_its_name(repository):
     (repository.folder / "closed").write_text("")
     (repository.folder / "closed").chmod(0)
     how = {"before": unprivileged(), "env": repository.environment(RT_TOLD="/dev/null")}
-    for name, wrong in (("none", "there is no file 'none'"), (".", "'.' is a folder, and a file is needed"),
-                        ("closed", "'closed' cannot be read: permission denied")):
+    (repository.folder / "shut").mkdir()
+    (repository.folder / "shut" / "history").write_text("")
+    (repository.folder / "shut").chmod(0)
+    with socket.socket(socket.AF_UNIX) as held:
+        held.bind(str(repository.folder / "socket"))
+    for name, wrong in (("none", "there is no file 'none'"), (".", "'.' is a directory: expected a file"),
+                        ("closed", "'closed' cannot be opened: permission denied"),
+                        ("shut/history", "'shut/history' cannot be opened: permission denied"),
+                        ("socket", "'socket' cannot be opened: no such device or address")):
         require(repository.run("check", name, **how).refuses(wrong), name)
+    (repository.folder / "shut").chmod(0o700)
+
+
+@check
+def a_file_with_a_space_is_named_as_a_shell_reads_it(repository):
+    (repository.folder / "my history").write_text("")
+    require(repository.run("my history").refuses("write: ./ra_monitor check my\\ history"))
+
+
+@check
+def a_refusal_that_cannot_be_written_is_no_violation(repository):
+    built(repository)
+    for words in ("chekc", "check none", "check .", "check --json", "bench"):
+        for closed in ("2> /dev/full", "2>&-"):
+            ran = subprocess.run(["bash", "-c", f'"$0" {words} {closed}', repository.top / "ra_monitor"],
+                                 cwd=repository.folder, env=repository.environment(), timeout=SECONDS)
+            require(ran.returncode == 2, words, closed, ran.returncode)
 
 
 @check
@@ -148,7 +177,8 @@ def help_that_cannot_be_written(repository):
         with open("/dev/full", "w") as full:
             ran = subprocess.run([repository.top / "ra_monitor", *words], stdout=full, stderr=subprocess.PIPE,
                                  text=True)
-        require(ran.returncode == 2 and "No space left" in ran.stderr, words, ran)
+        require(ran.returncode == 2, words, ran)
+        require(ran.stderr.endswith("ra_monitor: standard output cannot be written: No space left on device\n"), ran)
 
 
 @check
@@ -193,11 +223,11 @@ def a_syntax_fault_is_explained(repository):
     os.mkfifo(pipe)
     with open(os.open(pipe, os.O_RDWR), "w") as held:
         ran = repository.run("check", "--why", "pipe")
-        require(ran.refuses("'pipe' is a pipe or a device; write: ./ra_monitor explain pipe"), ran)
+        require(ran.refuses("'pipe' is a pipe or a device; save it to a file, or use: ./ra_monitor explain"), ran)
         require(not held.closed)
     ran = repository.run("check", "--why")
-    require(ran.refuses("--why reads the history twice, and standard input is no file; write: "
-                        "./ra_monitor check --why FILE"))
+    require(ran.refuses("--why reads the history twice, and standard input is no file; save it to a file, or use: "
+                        "./ra_monitor explain"))
 
 
 def run_on(repository, words, **how):
