@@ -3,11 +3,11 @@
 
     examples/convergence_test/compare.py [--all] [--times]
 
-Each test gets at most 200 runs of three replicas and 30 operations for each bug. There are 13 bugs, two or three in each
-of five small replicated data types (clients/python/tests/replicas.py); with --all, every bug that is planted in the
-tests of the Python client and that a history can show. Each type without a bug has to pass both tests. Prints, for each
-bug, the run in which each test found it, and with --times the seconds until then. The status is 0 if the random runs
-found each bug and no test failed a correct type.
+For each bug, each test gets at most 200 runs of three replicas and 30 operations. There are 13 bugs, two or three in
+each of five small replicated data types (clients/python/tests/replicas.py); with --all, every bug that is planted in
+the tests of the Python client and that a history can show. Each type without a bug has to pass 20 runs of both tests.
+Prints, for each bug, the run in which each test found it, and with --times the seconds until then. The status is 0 if
+the random runs found each bug and no test failed a correct type.
 """
 import os
 import sys
@@ -25,7 +25,7 @@ from convergence import NAMES, converges
 from replicas import CORRECT, Message, OrSet
 from yehatu import NotLinearizable, check_random
 
-RUNS, OPERATIONS = 200, 30
+RUNS, CORRECT_RUNS, OPERATIONS = 200, 20, 30
 
 
 class AddedOnlyOnce(OrSet):
@@ -68,15 +68,15 @@ def buggy(kind, bug):
     return AddedOnlyOnce if bug == ADDED_ONLY_ONCE else planted.OBSERVABLE[bug][kind]
 
 
-def by_convergence(make, kind):
+def by_convergence(make, kind, runs=RUNS):
     """The run in which the conventional test fails, from 1, or None."""
-    return next((seed + 1 for seed in range(RUNS) if not converges(make, kind, seed)), None)
+    return next((seed + 1 for seed in range(runs) if not converges(make, kind, seed)), None)
 
 
-def by_random_runs(make, kind):
+def by_random_runs(make, kind, runs=RUNS):
     """The run in which `check_random` fails, from 1, or None."""
     try:
-        check_random(make, kind, replicas=NAMES, operations=OPERATIONS, seeds=RUNS)
+        check_random(make, kind, replicas=NAMES, operations=OPERATIONS, seeds=runs)
     except NotLinearizable as failure:
         Path(failure.history).unlink()
         return int(str(failure).split("\nrun ")[1].split(",")[0])
@@ -96,7 +96,7 @@ def timed(test, make, kind):
 
 def main():
     bugs, tests = ALL if "--all" in sys.argv else BUGS, (by_convergence, by_random_runs)
-    wrong = [kind for kind, make in CORRECT.items() if any(test(make, kind) for test in tests)]
+    wrong = [kind for kind, make in CORRECT.items() if any(test(make, kind, CORRECT_RUNS) for test in tests)]
     print(f"{'type':9} {'bug':44} {'convergence test':18} check_random")
     results = []
     for kind, bug in bugs:
