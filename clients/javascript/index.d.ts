@@ -1,4 +1,4 @@
-/** The summary of a whole run, as `check --report` prints it. */
+/** The summary of a whole run, as `check --report` prints it (docs/reference/json.md). */
 export interface Report {
   /** The kind of the history. */
   kind: Kind;

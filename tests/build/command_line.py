@@ -183,15 +183,16 @@ def help_that_cannot_be_written(repository):
 
 @check
 def the_help_has_each_word_of_the_format(repository):
-    """Of replies, causes and refusals as of lines: what docs/FORMAT.md has in its tables and lists."""
+    """Of replies, causes and refusals as of lines: what the tables of docs/reference have."""
     pages = {name: repository.run("help", name).wrote for name in PAGES}
-    text = (TOP / "docs" / "FORMAT.md").read_text()
-    why = text[text.index("Why a command is refused"):text.index("The reply to a line is written")]
-    refusals = set(re.findall(r"`([a-z-]+)(?: M)?`", why))
+    reference = TOP / "docs" / "reference"
+    why = (reference / "replies.md").read_text().split("## Refusals")[1]
+    refusals = set(re.findall(r"^\| `([a-z-]+)(?: M)?`", why, re.MULTILINE))
     require(len(refusals) == 13, refusals)
     replies = ("ok N", "got N", "joined N", "yes N", "no N CAUSE", "end yes N")
     for word in (*refusals, *replies, "order", "update", "query"):
         require(re.search(rf"(^|[ `]){word}([ `]|$)", pages["replies"], re.MULTILINE), word)
+    text = (reference / "text_format.md").read_text()
     table = text[text.index("| Body |"):text.index("Writes of a register")]
     bodies = set(re.findall(r"^\| `([a-z]+)`", table, re.MULTILINE))
     for word in (*bodies, *KINDS, "verdict", "join", "got", "dec"):

@@ -5,8 +5,8 @@ The first word after an opening fence is the block's language. What stands behin
     console                  lines that begin with `$ ` (continued by `> `) are run, and the others are their output;
                              `[...]` stands for any part of a line, or alone for any lines
     history                  a history with a reply behind each line, separated by two spaces or more
-    LANGUAGE run             the block is run; `# prints: TEXT` in its last line (or `// prints:`) is its output. In `sh`
-                             each line is a command, whose status is 0, or what `# exit status N` says
+    LANGUAGE run             the block is run; `# prints: TEXT` in its last line (or `// prints:`) is its output. In
+                             `sh` each line is a command, whose status is 0, or what `# exit status N` says
     LANGUAGE save=NAME       the reader saves it under this name, where later commands find it
     LANGUAGE file=PATH       the block is this file
     LANGUAGE part-of=PATH    the block is a part of this file
@@ -63,8 +63,7 @@ class Block(NamedTuple):
             yield f"a block of {self.language} needs a mark: run, save=, file=, part-of= or not-run: WHY"
         if self.language != "console" and not self.reason and any(it.startswith("$ ") for it in self.lines):
             yield "a command with output stands in a block that is not `console`"
-        if self.language == "console" and not self.reason and not self.lines[:1][0:1] == [it for it in self.lines[:1]
-                                                                                         if it.startswith("$ ")]:
+        if self.language == "console" and not self.lines[0].startswith("$ "):
             yield "a block of `console` begins with a command"
 
 

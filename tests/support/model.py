@@ -1,4 +1,4 @@
-"""A second monitor, written from docs/explanation/model.md and docs/FORMAT.md alone, to be read in one sitting.
+"""A second monitor, written from docs/explanation/model.md and docs/reference/ alone, to be read in one sitting.
 
 It has none of the program's structures: at each new label it sorts all labels afresh, and folds all updates afresh. So
 it is good for histories of some tens of labels. tests/program/fuzz_histories and tests/program/fuzz_bytes hold the

@@ -1,4 +1,4 @@
-// The advice of docs/REPORTING.md on how to report, as tests.
+// The advice of docs/howto/instrument_a_library.md, as tests.
 import assert from "node:assert/strict";
 import { test } from "node:test";
 import { NotLinearizable, Recorder } from "../index.js";

@@ -1,4 +1,4 @@
-"""The advice of docs/REPORTING.md on how to report, as tests."""
+"""The advice of docs/howto/instrument_a_library.md, as tests."""
 import unittest
 
 from yehatu import NotLinearizable, Recorder

@@ -21,7 +21,7 @@ STDERR_LINES = 50
 
 
 class Report(NamedTuple):
-    """The summary of a whole run, as `check --report` prints it.
+    """The summary of a whole run, as `check --report` prints it (docs/reference/json.md).
 
     `calls` counts the commands, `labels` the accepted operations, and `refused` the rejected commands. For a violation,
     `label` is the first violating operation and `cause` the condition that fails. `final` says whether no order at all

@@ -1,7 +1,7 @@
 //! The lines of a history's text: the kind, the replicas' names, the commands, and the lines of replies.
 //!
 //! `specs/Grammar` states the grammar as equations between the fields of a line and words, names and digits;
-//! docs/FORMAT.md describes it in prose. `specs/Reading` computes what a line encodes, field by field, and
+//! docs/reference/text_format.md describes it in prose. `specs/Reading` computes what a line encodes, field by field, and
 //! `specs/Replies` the line of a reply.
 //!
 //! The contract for the layers above: where allocation succeeds, `command` returns the command that a line encodes, and

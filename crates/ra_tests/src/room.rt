@@ -58,7 +58,7 @@ fn two_reserved_entries_are_answered(rt: HostRuntime) {
     is_answered(&rt, &mut reporter, increment(3), unknown);
 }
 
-// The size in bytes that docs/USING.md states for an entry.
+// The size in bytes that docs/howto/run_continuously.md states for an entry.
 #[test]
 fn an_entry_has_its_size(rt: HostRuntime) {
     assert_eq!(rt; mem::size_of::<Entry<Command, Reply>>(), 72);
