@@ -21,7 +21,8 @@ SENTENCES = {
     "too long": " has more than 1048576 bytes.",
     "full": " exceeds the limit of 1048576 commands.",
 }
-EMPTY = "the text is empty: its first line has to be RAH 2 and a kind, as RAH 2 counter"
+EMPTY = "the text is empty: its first line is RAH 1 or RAH 2 and a kind, for example RAH 2 counter"
+NO_NAMES = "line 2 is replicas and the replicas' names, for example replicas ann bob"
 UTF_16 = ("\xff\xfe", "\xfe\xff")
 # What is noted of the bytes of a line that cannot be parsed; the first two of any line that has an end nowhere, too.
 NOTES_ON_BYTES = [
@@ -31,16 +32,16 @@ NOTES_ON_BYTES = [
     (lambda it: it.endswith("\r"), r"\x0d is a carriage return (CRLF): save the text with LF line endings"),
     (lambda it: "\t" in it, r"\x09 is a tab: fields are separated by one space"),
     (lambda it: it.endswith(" "), "the line ends with a space: remove it"),
-    (lambda it: it == "", "a history has no empty lines: remove it"),
+    (lambda it: it == "", "a history has no empty lines: remove this line"),
     (lambda it: it.startswith(("#", "//")), "a history has no comments: remove the line"),
 ]
 NEWER = "this program reads the formats 1 and 2: a newer format needs a newer program"
-KINDS = "README.md says which kind fits which data type"
+KINDS = "docs/howto/choose_a_kind.md says which kind fits which data type"
 MOST_NAMES = {
     1: (16, "RAH 1 has at most 16 replicas: with RAH 2 in line 1 there may be 64"),
     2: (64, "a history has at most 64 replicas"),
 }
-SMALL = "words and names are lower case"
+SMALL = "words and names must be lower case"
 # The numbers that a field may have: without a sign, and as the result of a counter's read.
 UNSIGNED, SIGNED = range(model.GREATEST_NUMBER + 1), range(-model.GREATEST_SIGNED - 1, model.GREATEST_SIGNED + 1)
 # What people write first, each with the beginning of the note on it.
@@ -91,9 +92,9 @@ FIRST_TRIES = {
     f"{HEADER}a read -2147483649\n": "the number is less than -2147483648",
     "RAH 1 counter\nreplicas abcdefghijklmnopq\n": "a name has at most 16 characters, this one 17",
     f"{HEADER}abcdefghijklmnopq inc\n": "a name has at most 16 characters, this one 17",
-    "RAH 1 counter\nreplicas ann bob ann\n": "ann is already field 2: the names are distinct",
-    "RAH 1 counter\nreplicas ann bob bob\n": "bob is already field 3: the names are distinct",
-    "RAH 1 counter\nreplicas replicas replicas\n": "replicas is already field 2: the names are distinct",
+    "RAH 1 counter\nreplicas ann bob ann\n": "ann is already field 2: names must be different",
+    "RAH 1 counter\nreplicas ann bob bob\n": "bob is already field 3: names must be different",
+    "RAH 1 counter\nreplicas replicas replicas\n": "replicas is already field 2: names must be different",
     "RAH 1 counter\nreplicas node_1\n": "a name has only the letters a to z and digits, not _",
     "RAH 1 counter\nreplicas ren\xe9\n": r"a name has only the letters a to z and digits, not \xe9",
     "RAH 1 counter\nreplicas 1a\n": "a name begins with a letter",
@@ -129,7 +130,7 @@ COMMANDS += ["join {} a", "join n9 {}", "join n9 a {}", "{}a inc", "a{} inc", "a
 
 def shown(text):
     """The front of a text in ASCII: quotation marks, backslashes and what is no letter, digit or sign as numbers."""
-    marks = (it if " " <= it <= "~" and it not in '"\\' else f"\\x{ord(it):02x}" for it in text[:SHOWN])
+    marks = (it if " " <= it <= "~" and it != "\\" else f"\\x{ord(it):02x}" for it in text[:SHOWN])
     return "".join(marks) + (" .." if len(text) > SHOWN else "")
 
 
@@ -181,7 +182,7 @@ class Stop:
 
     def words(self, told):
         """The page, whose field is that of the object."""
-        sentence = SENTENCES.get(self.why, " is incomplete: the text ends before its line feed.")
+        sentence = SENTENCES.get(self.why, " has no line feed at its end: add one, unless the text was cut off.")
         if self.why == "truncated" and not self.says:
             sentence = " is missing: the text ends before it."
         yield f"line {self.line}{sentence}"
@@ -193,10 +194,12 @@ class Stop:
             yield from (headed("note", it) for it in self.notes(told["field"]))
         if self.why == "truncated" and self.line == 1 and not self.says:
             yield headed("note", EMPTY)
+        if self.why == "truncated" and self.line == 2 and not self.says:
+            yield headed("note", NO_NAMES)
         if self.why in ("truncated", "too long"):
             yield from (headed("note", note) for is_so, note in NOTES_ON_BYTES[:2] if is_so(self.says))
         if self.before:
-            behind = "without this line and the rest, explain reports it"
+            behind = "remove the lines from here on to have it explained"
             yield headed("before it", f"a violation, {self.before}: {behind}")
 
     def words_on_field(self, number, wanted):
@@ -273,7 +276,7 @@ def notes_on_name(word, before):
     yield "a name begins with a letter" if word[0].isdigit() else None
     yield f"a name has at most 16 characters, this one {len(word)}" if len(word) > 16 else None
     if word in before[1:]:
-        yield f"{word} is already field {before.index(word, 1) + 1}: the names are distinct"
+        yield f"{word} is already field {before.index(word, 1) + 1}: names must be different"
 
 
 def look_at_stop(program, text, said, replies):

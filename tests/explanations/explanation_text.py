@@ -33,7 +33,13 @@ REJECTIONS = {
     "too-many-replicas": "there are 64 replicas, and no more may join",
 }
 # Why an operation of another kind is rejected, where it is one of a set in the history of the other sort of sets.
-OTHER_KIND = "the operation belongs to another kind"
+OPERATIONS = {
+    "counter": "a counter's operations are inc, dec and read",
+    "register": "a register's operations are write and read",
+    "lwwset": "an LWW set's operations are add, remove and read",
+    "orset": "an OR-Set's operations are add, remove and read",
+    "rga": "a list's operations are after, remove and read",
+}
 OTHER_SETS = {
     ("orset", False): "an OR-Set's add and remove need an identifier, as add 4 #1",
     ("lwwset", True): "an LWW set's operations have a clock, as @1, and no identifier",
@@ -85,7 +91,7 @@ def words_of_pass(case):
     if labels:
         yield f"{counted(labels, 'label holds', 'labels hold')}: one order explains all results."
     else:
-        yield "no operation was accepted, so there is nothing to explain."
+        yield "no operation was accepted, so nothing was checked."
     yield ""
     lacks = [(name, case.lacked(replica)) for replica, name in enumerate(case.monitor.names)]
     for name, lacked in lacks[:MOST_LACKING]:
@@ -120,11 +126,11 @@ def line_of_reason(case, place, front, word, missing):
         what, taken = ("clock", "@") if word == "stamp-taken" else ("identifier", "#")
         return with_label(case, f"{front}its {what} is used by ", taken_by(case, words, taken))
     if word == "stamp-missing":
-        return front + ("the clock is 0: clocks begin at 1" if "@0" in words else "a clock is missing, as @1")
+        return front + ("the clock is 0: clocks begin at 1" if "@0" in words else "a clock is missing, for example @1")
     if word == "wrong-kind":
         is_tagged = any(it.startswith("#") for it in words)
         sort = (case.monitor.kind, is_tagged) if words[1] in ("add", "remove") else None
-        return front + OTHER_SETS.get(sort, OTHER_KIND)
+        return front + OTHER_SETS.get(sort, OPERATIONS[case.monitor.kind])
     if word == "already-seen":
         return front + how_seen(case, words[0], int(words[2]))
     return front + REJECTIONS[word]
@@ -134,7 +140,7 @@ def how_seen(case, name, label):
     if case.maker(label) == name:
         return "the replica issued the label itself"
     is_delivered = case.arrival(name, label) is not None
-    return "the label was delivered to the replica before" if is_delivered else "the replica joined with the label"
+    return "the label was delivered to the replica before" if is_delivered else "the replica had the label when it joined"
 
 
 def taken_by(case, words, sign):
@@ -227,6 +233,7 @@ def words_of_order(case):
     others = len(above) - MOST_ABOVE
     if others > 0:
         yield headed("", f"and {counted(others, 'label', 'labels')} before them")
+    yield headed("rule", "a clock, and on a tie its replica, is above all that its label sees")
 
 
 def words_of_update(case):
@@ -239,7 +246,8 @@ def words_of_update(case):
         found = [it for it in case.insertions(element) if it != label]
     if not found:
         element = case.needed_by(label)
-        head, how, found = "missing", "inserted later by", [it for it in case.insertions(element) if it != label]
+        head, how = "missing", "which comes later in the order, by"
+        found = [it for it in case.insertions(element) if it != label]
     for other in found:
         yield with_label(case, headed(head, f"element {element}, {how} "), other)
     if not found:
@@ -272,7 +280,7 @@ def words_of_remedies(case):
         changes = f"one of {others} other changes" if others > 1 else "1 other change"
         yield headed("or", f"with {changes} of this kind")
     if any("misses_line" in it for it in found[:MOST_REMEDIES]):
-        yield headed("", "what depends on a label is not delivered without it")
+        yield headed("", "updates that depend on a label are then not delivered either")
     if tried and not found:
         yield headed("tried", f"no single change of deliveries explains it ({tried} tried)")
 

@@ -21,6 +21,8 @@ pub enum Expected {
     Name,
     /// The word of a delivery or of an operation of this kind.
     Act(Kind),
+    /// A label.
+    Label,
     /// A number.
     Number,
     /// The result of a counter's read.
@@ -44,7 +46,7 @@ impl Expected {
     pub fn words(self) -> &'static str {
         match self {
             Expected::FirstWord => "RAH: the first line is RAH 1 or RAH 2, and a kind",
-            Expected::FormatNumber => "1 or 2, the format",
+            Expected::FormatNumber => "1 or 2, the version of the format",
             Expected::KindWord => "a kind: counter, register, lwwset, orset or rga",
             Expected::SecondWord =>
                 "replicas: the second line is this word and the replicas' names",
@@ -80,7 +82,9 @@ impl Expected {
             Expected::Clock => {
                 "a clock: @ and a number, as @1, at most @4294967295, without a leading zero"
             }
-            _ => "a number without a leading zero, at most 4294967295",
+            Expected::Label =>
+                "a label: a number that ok gave, at most 4294967295, without a leading zero",
+            _ => "a number, as values and elements are: at most 4294967295, without a leading zero",
         }
     }
 }

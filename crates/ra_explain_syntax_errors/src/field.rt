@@ -49,11 +49,11 @@ impl<'a> Cursor<'a> {
         })
     }
 
-    // Takes a field that has to be a number.
-    fn number(&mut self) -> Option<Trouble> {
+    // Takes a field that has to be a number with this meaning.
+    fn number(&mut self, expected: Expected) -> Option<Trouble> {
         match self.take() {
             Some(field) if number(field).is_some() => None,
-            _ => self.trouble(Expected::Number),
+            _ => self.trouble(expected),
         }
     }
 
@@ -163,7 +163,7 @@ fn in_act(kind: Kind, mut cursor: Cursor<'_>) -> Option<Trouble> {
         Some(b"inc") | Some(b"dec") => cursor.clock(Expected::End),
         Some(b"read") => in_read(kind, cursor),
         Some(b"after") => in_insertion(cursor),
-        Some(word) if has_number(word) => match cursor.number() {
+        Some(word) if has_number(word) => match cursor.number(meaning_behind(word)) {
             None => behind_number(kind, word, cursor),
             trouble => trouble,
         },
@@ -176,6 +176,14 @@ fn has_number(word: &[u8]) -> bool {
     match word {
         b"got" | b"write" | b"add" | b"remove" => true,
         _ => false,
+    }
+}
+
+// Returns the meaning of the number after the word.
+fn meaning_behind(word: &[u8]) -> Expected {
+    match word {
+        b"got" => Expected::Label,
+        _ => Expected::Number,
     }
 }
 
@@ -229,7 +237,7 @@ fn in_removal(kind: Kind, mut cursor: Cursor<'_>) -> Option<Trouble> {
 
 fn in_insertion(mut cursor: Cursor<'_>) -> Option<Trouble> {
     for _ in 0..2 {
-        let trouble = cursor.number();
+        let trouble = cursor.number(Expected::Number);
         if trouble.is_some() {
             return trouble;
         }

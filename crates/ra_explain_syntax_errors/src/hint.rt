@@ -64,7 +64,7 @@ fn put_rule_hint(
         (Expected::Identifier | Expected::Identifiers, [b'#', numbers @ ..]) => {
             put_number_hint(out, numbers, false)
         }
-        (Expected::Number | Expected::Value | Expected::List, _) => {
+        (Expected::Label | Expected::Number | Expected::Value | Expected::List, _) => {
             put_number_hint(out, field, false)
         }
         (Expected::Signed, _) => put_number_hint(out, field, true),
@@ -94,7 +94,7 @@ fn put_byte_hints(out: &mut Vec<u8>, text: &[u8]) -> Result<(), NoMemory> {
         put_note(out, "the line ends with a space: remove it")?;
     }
     if text.is_empty() {
-        put_note(out, "a history has no empty lines: remove it")?;
+        put_note(out, "a history has no empty lines: remove this line")?;
     }
     if is_comment(text) {
         put_note(out, "a history has no comments: remove the line")?;
@@ -128,7 +128,10 @@ fn put_first_line_hint(out: &mut Vec<u8>, line: Line<'_>) -> Result<(), NoMemory
             "this program reads the formats 1 and 2: a newer format needs a newer program",
         ),
         3 if !field.is_empty() && field.iter().all(is_of_a_kind) => {
-            put_note(out, "README.md says which kind fits which data type")
+            put_note(
+                out,
+                "docs/howto/choose_a_kind.md says which kind fits which data type",
+            )
         }
         _ => Ok(()),
     }
@@ -162,7 +165,7 @@ fn put_spelling_hint(out: &mut Vec<u8>, line: Line<'_>) -> Result<(), NoMemory> 
     match (line.place, line.trouble) {
         (Place::First, Some(Trouble { field: 1, .. })) => Ok(()),
         _ if field.iter().any(|byte| byte.is_ascii_uppercase()) => {
-            put_note(out, "words and names are lower case")
+            put_note(out, "words and names must be lower case")
         }
         _ => Ok(()),
     }

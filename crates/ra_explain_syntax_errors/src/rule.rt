@@ -101,7 +101,7 @@ fn put_repeated_hint(
             put_head(out, "note")?;
             out.extend_from_slice(name)?;
             put_numbered(out, b" is already field ", earlier)?;
-            put(out, ": the names are distinct\n")?;
+            put(out, ": names must be different\n")?;
         }
     }
     Ok(())

@@ -6,6 +6,9 @@ use ra_labels::NoMemory;
 /// The largest number of characters of a line that are shown.
 const MOST_SHOWN: usize = 60;
 
+/// The mark before the digits of a byte in an object.
+pub const IN_OBJECT: &str = "\\u00";
+
 /// Returns the field of this number, from 1, if the line has one.
 pub fn field_of(text: &[u8], number: u32) -> Option<&[u8]> {
     let mut fields = Fields::of(text);
@@ -15,12 +18,13 @@ pub fn field_of(text: &[u8], number: u32) -> Option<&[u8]> {
     fields.take()
 }
 
-/// Appends the first characters. Quotation marks, backslashes and bytes outside printable ASCII are written as this
-/// mark and two hexadecimal digits. Two dots follow if there are more.
+/// Appends the first characters. Backslashes and bytes outside printable ASCII are written as this mark and two
+/// hexadecimal digits, and in an object quotation marks too. Two dots follow if there are more.
 pub fn put_shown(out: &mut Vec<u8>, text: &[u8], mark: &str) -> Result<(), NoMemory> {
     for byte in text.iter().take(MOST_SHOWN) {
         match *byte {
-            b'"' | b'\\' => put_hex(out, mark, *byte)?,
+            b'\\' => put_hex(out, mark, *byte)?,
+            b'"' if mark == IN_OBJECT => put_hex(out, mark, *byte)?,
             b' '..=b'~' => out.push(*byte)?,
             other => put_hex(out, mark, other)?,
         }

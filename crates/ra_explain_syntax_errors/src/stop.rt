@@ -1,7 +1,7 @@
 //! The explanation of a text that stops with a fault.
 use crate::field::{Trouble, in_command, in_first_line, in_names};
 use crate::hint::{Line, Place, put_binary_hint, put_hints, put_note};
-use crate::shown::{field_of, put_shown};
+use crate::shown::{IN_OBJECT, field_of, put_shown};
 use ra_explain_common::{put, put_cut, put_end, put_head, put_start};
 use ra_history_lines::number::put_numbered;
 use ra_history_lines::reply::cause_word;
@@ -66,7 +66,7 @@ impl<'a> Stop<'a> {
         match self.why {
             Why::Syntax => " cannot be parsed.",
             Why::Truncated if self.text.is_empty() => " is missing: the text ends before it.",
-            Why::Truncated => " is incomplete: the text ends before its line feed.",
+            Why::Truncated => " has no line feed at its end: add one, unless the text was cut off.",
             Why::LineTooLong => " has more than 1048576 bytes.",
             Why::Full => " exceeds the limit of 1048576 commands.",
         }
@@ -98,7 +98,7 @@ impl<'a> Stop<'a> {
         put(out, ",\"why\":\"")?;
         put(out, self.why.word())?;
         put(out, "\",\"text\":\"")?;
-        put_shown(out, self.text, "\\u00")?;
+        put_shown(out, self.text, IN_OBJECT)?;
         put(out, "\"")?;
         if let Some(trouble) = self.trouble {
             put_numbered(out, b",\"field\":", trouble.field)?;
@@ -195,7 +195,13 @@ fn put_notes(out: &mut Vec<u8>, stop: &Stop<'_>) -> Result<(), NoMemory> {
         (Why::Truncated, Place::First) if stop.text.is_empty() => {
             put_note(
                 out,
-                "the text is empty: its first line has to be RAH 2 and a kind, as RAH 2 counter",
+                "the text is empty: its first line is RAH 1 or RAH 2 and a kind, for example RAH 2 counter",
+            )
+        }
+        (Why::Truncated, Place::Names(_)) if stop.text.is_empty() => {
+            put_note(
+                out,
+                "line 2 is replicas and the replicas' names, for example replicas ann bob",
             )
         }
         (Why::Truncated | Why::LineTooLong, _) => put_binary_hint(out, stop.text),
@@ -213,6 +219,6 @@ fn put_before(out: &mut Vec<u8>, before: Option<Fault>) -> Result<(), NoMemory> 
     put(out, cause_word(fault.cause))?;
     put(
         out,
-        ": without this line and the rest, explain reports it\n",
+        ": remove the lines from here on to have it explained\n",
     )
 }

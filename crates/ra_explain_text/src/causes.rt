@@ -10,7 +10,8 @@ use ra_labels::{Command, NoMemory, Op, Reply};
 /// The largest number of labels with greater stamps that are shown.
 const MOST_ABOVE: usize = 3;
 
-/// Appends the latest labels that this one sees with a stamp above its own, and how its replica came to see them.
+/// Appends the latest labels that this one sees with a stamp above its own, how its replica came to see them, and the
+/// rule that is broken.
 pub fn put_order(out: &mut Vec<u8>, case: &Case<'_>, no: &No<'_>) -> Result<(), NoMemory> {
     let mut told: usize = 0;
     for other in no.why.above.iter().rev() {
@@ -27,7 +28,11 @@ pub fn put_order(out: &mut Vec<u8>, case: &Case<'_>, no: &No<'_>) -> Result<(), 
         put_count(out, small(others), " label", " labels")?;
         put(out, " before them\n")?;
     }
-    Ok(())
+    put_head(out, "rule")?;
+    put(
+        out,
+        "a clock, and on a tie its replica, is above all that its label sees\n",
+    )
 }
 
 fn put_above(out: &mut Vec<u8>, case: &Case<'_>, replica: u8, other: u32) -> Result<(), NoMemory> {
@@ -103,7 +108,7 @@ fn put_needed(
         case,
         label,
         element,
-        ("missing", ", inserted later by "),
+        ("missing", ", which comes later in the order, by "),
     )? {
         return Ok(());
     }

@@ -125,7 +125,10 @@ fn put_rest(out: &mut Vec<u8>, help: &Help) -> Result<(), NoMemory> {
     }
     if help.told().iter().any(is_missing) {
         put_head(out, "")?;
-        put(out, "what depends on a label is not delivered without it\n")?;
+        put(
+            out,
+            "updates that depend on a label are then not delivered either\n",
+        )?;
     }
     if found == 0 && help.tried > 0 {
         put_head(out, "tried")?;

@@ -18,7 +18,7 @@ pub fn put_yes(out: &mut Vec<u8>, case: &Case<'_>, report: &Report) -> Result<()
     if report.labels == 0 {
         put(
             out,
-            "no operation was accepted, so there is nothing to explain.\n\n",
+            "no operation was accepted, so nothing was checked.\n\n",
         )?;
     } else {
         put_count(out, report.labels, " label holds", " labels hold")?;
@@ -173,14 +173,24 @@ fn wrong_kind(kind: Kind, command: &Command) -> &'static str {
                 ..
             },
         ) => "an LWW set's operations have a clock, as @1, and no identifier",
-        _ => "the operation belongs to another kind",
+        _ => operations_of(kind),
+    }
+}
+
+fn operations_of(kind: Kind) -> &'static str {
+    match kind {
+        Kind::Counter => "a counter's operations are inc, dec and read",
+        Kind::Register => "a register's operations are write and read",
+        Kind::LwwSet => "an LWW set's operations are add, remove and read",
+        Kind::OrSet => "an OR-Set's operations are add, remove and read",
+        Kind::Rga => "a list's operations are after, remove and read",
     }
 }
 
 fn clock_missing(command: &Command) -> &'static str {
     match command {
         Command::Operate { stamp: Some(_), .. } => "the clock is 0: clocks begin at 1",
-        _ => "a clock is missing, as @1",
+        _ => "a clock is missing, for example @1",
     }
 }
 
@@ -191,7 +201,7 @@ fn why_seen(case: &Case<'_>, command: &Command) -> &'static str {
             "the replica issued the label itself"
         }
         Command::Deliver { replica, label } if delivery_of(case, *replica, *label).is_none() => {
-            "the replica joined with the label"
+            "the replica had the label when it joined"
         }
         _ => "the label was delivered to the replica before",
     }
