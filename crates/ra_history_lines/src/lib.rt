@@ -1,8 +1,8 @@
 //! The lines of a history's text: the kind, the replicas' names, the commands, and the lines of replies.
 //!
 //! `specs/Grammar` states the grammar as equations between the fields of a line and words, names and digits;
-//! docs/reference/text_format.md describes it in prose. `specs/Reading` computes what a line encodes, field by field, and
-//! `specs/Replies` the line of a reply.
+//! docs/reference/text_format.md describes it in prose. `specs/Reading` computes what a line encodes, field by field,
+//! and `specs/Replies` the line of a reply.
 //!
 //! The contract for the layers above: where allocation succeeds, `command` returns the command that a line encodes, and
 //! `None` exactly if it encodes none. `Reading::line` returns the kind, the number of names or the command that the

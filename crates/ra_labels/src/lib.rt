@@ -1,9 +1,9 @@
 //! The vocabulary shared by all crates: what replicas report, and what the monitor answers.
 //!
 //! The types are kinds, operations, labels, commands and replies. The definitions of their meaning are in `specs/`, and
-//! docs/explanation/model.md explains them in words. They comprise the sequential specification, records and visibility,
-//! the rewriting, RA-linearization, the named sequence, the fault, and the single-threaded monitor's answer. They follow
-//! Wang, Enea, Mutluergil and Petri, "Replication-Aware Linearizability" (PLDI 2019).
+//! docs/explanation/model.md explains them in words. They comprise the sequential specification, records and
+//! visibility, the rewriting, RA-linearization, the named sequence, the fault, and the single-threaded monitor's
+//! answer. They follow Wang, Enea, Mutluergil and Petri, "Replication-Aware Linearizability" (PLDI 2019).
 //!
 //! Contract for the crates above: `fits` returns the first reason to reject a command because of its own form. Theorems
 //! about the definitions, and worked examples, are in `ra_theorems`; theorems about lists are in `lists`.

@@ -23,7 +23,7 @@ SORTS = {
     "hand": Sort("bugs planted once by hand, each with the contract that killed it",
                  "Bugs planted once by hand, of which no file is kept:", second="Killed by"),
     "script": Sort("bugs of scripts and tools", "Bugs of scripts, of tools, and of what stands in for a program:"),
-    "client": Sort("bugs of the clients", "Each bug was planted in clients/python and in clients/javascript, whose"
+    "client": Sort("bugs of the clients", "Each bug was planted in both clients, whose"
                    " tests have the same names (`tests/clients/client_suites`):"),
     "plant": Sort("lines of `rt plant` that may stay", "Lines of `rt plant` that may stay:", "Line", "Why"),
     "left": Sort("bugs that nothing catches, each with the reason", "Bugs that nothing catches:", second="Why"),
