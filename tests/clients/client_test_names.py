@@ -12,10 +12,51 @@ from pathlib import Path
 
 CLIENTS = Path(__file__).resolve().parents[2] / "clients"
 
+# Tests of Python that JavaScript has to get.
+FOLLOWING = {
+    "network": [
+        "each_bug_of_a_network_is_found_and_named",
+        "no_bug_of_a_network_is_found_where_the_network_has_no_fault",
+        "a_fault_that_is_not_needed_is_not_named",
+        "correct_replicas_raise_no_false_alarm_on_any_network",
+        "a_saved_value_and_a_late_state_are_copied",
+        "a_class_method_may_load",
+        "what_cannot_be_copied_is_rejected",
+        "a_plan_has_the_events_of_its_profile",
+        "messages_arrive_in_any_order_if_the_type_promises_it",
+        "partitions_are_short_and_long_of_one_replica_and_of_two_groups",
+        "a_delayed_message_is_not_due",
+        "boundary_values_and_long_runs_occur",
+        "amounts_stay_within_what_the_monitor_counts",
+        "a_seed_plans_no_value_twice",
+        "what_a_type_cannot_promise_is_rejected",
+        "a_profile_follows_from_the_methods_of_the_class",
+    ],
+    "replay": [
+        "a_seed_with_its_version_runs_the_same_plan",
+        "a_seed_of_another_version_is_rejected",
+        "a_failure_is_stored_and_fails_again",
+        "a_class_that_was_repaired_passes_the_stored_run",
+        "steps_that_the_class_cannot_execute_are_left_out",
+        "a_run_that_fails_in_another_way_says_so",
+        "a_failure_is_stored_at_a_given_path",
+        "a_file_that_is_no_failure_is_rejected",
+        "passing_runs_leave_no_files",
+        "the_history_is_printed_once",
+        "the_middle_of_a_long_history_is_left_out",
+        "the_regression_test_fails_alone_and_passes_once_the_class_is_right",
+        "the_regression_test_has_the_faults_of_the_network",
+        "a_regression_test_without_an_assertion_replays_the_stored_run",
+        "a_run_that_does_not_fail_again_is_flaky",
+        "a_failed_run_is_run_twice_more_before_it_is_shrunk",
+        "a_run_that_fails_in_another_way_is_flaky",
+    ],
+}
 # Tests that one language alone can have, each with the reason.
 PYTHON_ALONE = {
     ("recorder", "a_value_that_is_not_hashable_is_rejected"): "in JavaScript anything can be the key of a Map",
     ("recorder", "an_exception_in_the_block_is_raised_unchanged"): "JavaScript has no `with` that closes a recorder",
+    **{(file, name): "issue 59: the JavaScript client follows" for file, names in FOLLOWING.items() for name in names},
 }
 JAVASCRIPT_ALONE = {
     ("recorder", "an_asynchronous_act_is_one_step_with_its_report"): "Python's acts are not awaited",

@@ -3,6 +3,7 @@ import contextlib
 import copy
 import io
 import os
+import re
 import unittest
 from typing import Any, Dict, Iterator, Tuple
 from unittest import mock
@@ -11,6 +12,7 @@ import planted
 from replicas import CORRECT, Counter, LwwSet, Message, Register, Rga, forking
 from yehatu import NotRepresentable, NotLinearizable, Refused, ReplicaRaised, check_random, program, random_runs
 from yehatu.plans import Planner
+from yehatu.profile import Traits
 
 # The number of runs of correct replicas. The gate runs fewer than the thousand of the README.
 RUNS = int(os.environ.get("YEHATU_RUNS", "100"))
@@ -141,7 +143,7 @@ class CorrectReplicas(unittest.TestCase):
         self.assertEqual(check_random(CORRECT["register"], "register", names, 20, range(7, 17)), 10)
 
     def test_a_seed_determines_the_plan(self) -> None:
-        plans = [Planner("rga", 3, 30, seed, False).plan() for seed in (5, 5, 6)]
+        plans = [Planner("rga", 3, 30, seed, Traits(("insert_after", "remove"))).plan() for seed in (5, 5, 6)]
         self.assertEqual(plans[0], plans[1])
         self.assertNotEqual(plans[1], plans[2])
 
@@ -162,9 +164,9 @@ class ReplicasThatJoin(unittest.TestCase):
     def test_some_replicas_are_initial_and_others_join(self) -> None:
         joins = []
         for seed in range(20):
-            plan = Planner("rga", 4, 30, seed, False, True).plan()
+            plan = Planner("rga", 4, 30, seed, Traits(("insert_after", "remove"), forks=True)).plan()
             joins.append(sum(it.action == "join" for it in plan))
-            self.assertTrue(all(it.update < it.replica for it in plan if it.action == "join"))
+            self.assertTrue(all(it.number < it.replica for it in plan if it.action == "join"))
         self.assertEqual((min(joins), max(joins)), (0, 3))
 
     def test_bugs_of_a_copy_are_found_and_shrunk(self) -> None:
@@ -196,7 +198,8 @@ def require_small_failure(test: unittest.TestCase, failed: NotLinearizable) -> N
     with open(failed.history or "") as file:
         text = file.read()
     test.assertLessEqual(len(text.splitlines()) - 2, LONGEST_HISTORY)
-    test.assertIn(text, str(failed))
+    for line in text.splitlines():
+        test.assertRegex(str(failed), rf"(?m)^    {re.escape(line)}(?:  |$)")
     test.assertIn("seed ", str(failed))
     test.assertEqual(program.check_text(program.find_for_many_runs(), text.encode()).status, 1)
 
@@ -205,9 +208,13 @@ class PlantedBugs(unittest.TestCase):
     def test_each_observable_bug_is_found_and_shrunk(self) -> None:
         for bug, kind, make in cases(planted.OBSERVABLE):
             with self.subTest(bug=bug, kind=kind):
-                with self.assertRaises(NotLinearizable) as caught:
+                with self.assertRaises((NotLinearizable, ReplicaRaised)) as caught:
                     check_random(make, kind, seeds=FOUND_WITHIN)
-                require_small_failure(self, caught.exception)
+                if isinstance(caught.exception, NotLinearizable):
+                    require_small_failure(self, caught.exception)
+                else:
+                    # An insertion behind an element that was lost has no place.
+                    self.assertEqual((bug, kind), ("a delivery is lost", "rga"))
 
     def test_a_merge_that_counts_twice(self) -> None:
         with self.assertRaises(NotLinearizable) as caught:

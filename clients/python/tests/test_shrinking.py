@@ -6,7 +6,7 @@ so a run is named by its letters.
 import unittest
 from typing import Callable, List, Optional, Sequence, Set, Tuple
 
-from yehatu.plans import Step
+from yehatu.steps import Step
 from yehatu.runs import Failure
 from yehatu.shrinking import shrink
 
@@ -49,10 +49,10 @@ def executable(steps: Steps) -> List[Step]:
     executed: List[Step] = []
     delivered: Set[Tuple[int, int]] = set()
     for step in steps:
-        is_new = step.action not in ("update", "deliver") or (step.replica, step.update) not in delivered
-        if is_new and not (step.action == "merge" and step.replica == step.update):
+        is_new = step.action not in ("update", "deliver") or (step.replica, step.number) not in delivered
+        if is_new and not (step.action == "merge" and step.replica == step.number):
             executed.append(step)
-            delivered.add((step.replica, step.update))
+            delivered.add((step.replica, step.number))
     return executed
 
 

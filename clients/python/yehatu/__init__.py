@@ -6,13 +6,14 @@ replicated data type in random runs, and shrinks the first run that has a violat
 import warnings as _warnings
 from typing import Any as _Any
 
-from .errors import MonitorExited, NotLinearizable, NotRepresentable, Refused, ReplicaRaised
+from .errors import FlakyRun, MonitorExited, NotLinearizable, NotRepresentable, Refused, ReplicaRaised, ReportFailed
 from .monitor import Monitor, Report
 from .operations import Operation, add, decrement, increment, insert_after, remove, write
-from .random_runs import check_random
+from .random_runs import Runs, check_random, replay
 from .recorder import Recorder
 
 __all__ = [
+    "FlakyRun",
     "Monitor",
     "MonitorExited",
     "NotLinearizable",
@@ -22,12 +23,15 @@ __all__ = [
     "Refused",
     "ReplicaRaised",
     "Report",
+    "ReportFailed",
+    "Runs",
     "add",
     "check_random",
     "decrement",
     "increment",
     "insert_after",
     "remove",
+    "replay",
     "write",
 ]
 

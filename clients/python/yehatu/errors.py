@@ -21,6 +21,8 @@ class ReportFailed(AssertionError):
         """The program's reply."""
         self.history = history
         """The file with the history up to this report, which `ra_monitor check` reads."""
+        self.steps: Optional[str] = None
+        """The file with the steps of a random run, which `replay` runs again."""
 
 
 class NotLinearizable(ReportFailed):
@@ -43,3 +45,7 @@ class Refused(ReportFailed):
 
 class ReplicaRaised(ReportFailed):
     """A replica of a random run raised an exception, which is the `__cause__` of this one."""
+
+
+class FlakyRun(ReportFailed):
+    """A random run failed, and the same steps did not fail in the same way again: the class is not deterministic."""

@@ -1,10 +1,11 @@
 """Reports on a failed history, in the user's names."""
 import os
 import tempfile
-from typing import Any, Dict, Hashable, List, Optional, Sequence
+from typing import Any, Dict, Hashable, List, Optional, Sequence, Tuple
 
 from . import program as programs
 from .errors import MonitorExited, NotLinearizable, Refused
+from .shown import observed_identifiers
 from .translation import Translator, is_operation
 
 # The largest number of a history's last lines in a message.
@@ -20,12 +21,6 @@ MEANINGS = {
     "id-taken": "another addition used this identifier before",
 }
 NOT_CAUSAL = "refused not-causal "
-
-# The meaning of `query` for an OR-Set's removal, which names the identifiers that its replica has observed.
-OTHER_IDENTIFIERS = (
-    "it names other identifiers than its replica had observed of the element; if an addition replaces older ones, "
-    "leave the identifiers out"
-)
 
 
 class FailureReport:
@@ -52,25 +47,40 @@ class FailureReport:
         message = f"message {self._message_keys[label]!r}, " if label in self._message_keys else ""
         return f"{message}label {label} ({self._translator.describe(self._line_of[label], self._describe_label)})"
 
-    def format_commands(self, replies: Sequence[str] = (), first: int = 0) -> str:
-        """Returns a table of the commands from number `first` on: each with its reply, if any, and its description."""
+    def format_commands(self, replies: Sequence[str] = (), first: int = 0, most: int = 0) -> str:
+        """Returns a table of the commands from number `first` on: each with its reply, if any, and its description.
+
+        If there are more than `most`, and that is not 0, those in the middle are left out.
+        """
         rows = []
         for number, line in enumerate(self.commands[first:], first):
             rows += [("", "", note) for note in self._notes.get(number, ())]
             rows.append((line, replies[number] if replies else "", self.describe(number)))
+        if most and len(rows) > most:
+            left_out = len(rows) - most
+            rows[most // 2 : -(most // 2)] = [("..", "", f"{left_out} lines are left out here, and not in the file")]
         widths = [max((len(row[column]) for row in rows), default=0) for column in (0, 1)]
         padded = ((line.ljust(widths[0]), reply.ljust(widths[1]), description) for line, reply, description in rows)
         return "\n".join("    " + "  ".join(it for it in row if it) for row in padded)
 
-    def summarize(self, text: str, reply: str, program: Optional[str]) -> str:
+    def explain(self, text: str, reply: str, program: Optional[str]) -> Optional[Dict[str, Any]]:
+        """Returns the program's explanation of a violation, or `None` if there is none."""
+        return programs.explain_violation(program, text) if reply.startswith("no ") else None
+
+    def summarize(self, reply: str, explanation: Optional[Dict[str, Any]]) -> str:
         """Describes the last command of the text and its reply.
 
-        A violation is followed by the expected result and the changes of deliveries that would explain it, if the
-        program can explain.
+        A violation is followed by the expected result and the changes of deliveries that would explain it, if there is
+        an explanation.
         """
         operation = self.describe(len(self.commands) - 1)
-        explanation = programs.explain_violation(program, text) if reply.startswith("no ") else None
         return f"{operation}: {self.describe_reply(reply)}{self._format_explanation(explanation)}"
+
+    def expected_read(self, explanation: Optional[Dict[str, Any]]) -> Optional[Tuple[Any]]:
+        """Returns the expected result of the last command, as a tuple with it alone, or `None` if it is unknown."""
+        line = None if explanation is None else explanation["right"]
+        words = line.split(" ") if line else []
+        return (self._translator.result_of(words[2]),) if words[1:2] == ["read"] else None
 
     def _format_explanation(self, explanation: Optional[Dict[str, Any]]) -> str:
         if explanation is None:
@@ -100,9 +110,28 @@ class FailureReport:
             return f"refused, {missing} has to be delivered first"
         causes = [it for it in reply.split(" ") if it in MEANINGS]
         verdict = "not RA-linearizable" if reply.startswith("no ") else "refused"
-        if " remove " in self.commands[-1] and causes == ["query"]:
-            return f"{verdict}, {OTHER_IDENTIFIERS}"
+        if self._translator.kind == "orset" and " remove " in self.commands[-1] and causes == ["query"]:
+            return f"{verdict}, {self._describe_identifiers()}"
         return f"{verdict}, {MEANINGS[causes[0]]}" if causes else reply
+
+
+    def _describe_identifiers(self) -> str:
+        """Compares the identifiers that the last command, a removal, names with those that its replica has."""
+        name, _, element, field = self.commands[-1].split(" ")
+        named = {int(it) for it in field[1:].split(",") if it not in ("", "-")}
+        observed = observed_identifiers(self.commands[:-1], name, int(element))
+        describe = self._translator.describe_identifiers
+        if named - observed:
+            meaning = "a delivery was not reported, or the removal names what its replica never had"
+        else:
+            meaning = (
+                "the replica lost an addition that was delivered, or the removal names too few; if an addition "
+                "replaces older ones, leave the identifiers out"
+            )
+        return (
+            f"it names the identifiers {describe(sorted(named))}, and by the reports its replica had "
+            f"{describe(sorted(observed))}: {meaning}"
+        )
 
 
 def create_error(
@@ -119,7 +148,7 @@ def create_error(
     operation = report.describe(last)
     shown = report.format_commands(first=max(0, last + 1 - SHOWN_LINES))
     message = (
-        f"{report.summarize(text, reply, program)}\n"
+        f"{report.summarize(reply, report.explain(text, reply, program))}\n"
         f"line {last + HEADER_LINES + 1} of {saved}, reply {reply!r}; the last lines:\n{shown}"
     )
     return (NotLinearizable if reply.startswith("no ") else Refused)(message, operation, reply, saved)

@@ -69,7 +69,8 @@ class Monitor:
         self._batch = min(self._window, BATCH_LINES)
         self._lock = threading.Lock()
         self._progress = threading.Condition()
-        self._lines: List[str] = []
+        # Callers append without the lock, and it is held to remove lines.
+        self._lines: Deque[str] = deque()
         self._written: List[bytes] = []
         self._expected: List[Any] = []
         self._sent = 0
@@ -91,6 +92,23 @@ class Monitor:
                 self._wake_flusher()
         if self._sent - self._answered >= self._window:
             self._wait_for(self._sent - self._window + 1)
+
+    def post_line(self, line: str, expected: str) -> None:
+        """Does the same for a line with its end, without the lock: no other call may run at the same time."""
+        if self._has_ended or self._is_closing:
+            self._raise_exited()
+        # The reply is expected before a thread can write the line.
+        self._expected.append(expected)
+        self._lines.append(line)
+        sent = self._sent = self._sent + 1
+        if len(self._lines) >= self._batch:
+            with self._lock:
+                self._write()
+        elif self._is_asleep:
+            with self._lock:
+                self._wake_flusher()
+        if sent - self._answered >= self._window:
+            self._wait_for(sent - self._window + 1)
 
     def tell(self, line: str) -> str:
         """Sends a command, waits for its reply and returns it."""
@@ -167,8 +185,7 @@ class Monitor:
         # After the end the file descriptor of the input may belong to another file.
         if not self._lines or self._has_ended:
             return
-        text = "".join(self._lines).encode()
-        self._lines.clear()
+        text = "".join([self._lines.popleft() for _ in range(len(self._lines))]).encode()
         self._written.append(text)
         unwritten = memoryview(text)
         try:
@@ -234,6 +251,8 @@ class Monitor:
                 self._wakeup.acquire()
             self._flush_until_idle()
             with self._lock:
+                # In this order, since a caller appends a line before it looks whether this thread sleeps.
+                self._is_asleep = True
                 is_asleep = self._is_asleep = not self._lines
 
     def _flush_until_idle(self) -> None:

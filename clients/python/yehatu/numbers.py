@@ -52,6 +52,8 @@ class Clocks:
 
     def number_of(self, clock: Any) -> int:
         """Returns the number of this clock."""
+        if clock.__class__ is int and self._offset == 0 and 1 <= clock <= MAX_NUMBER:
+            return clock
         if not isinstance(clock, int) or isinstance(clock, bool):
             raise NotRepresentable(
                 f"the clock {clock!r} is not a whole number: convert clocks to whole numbers in the same order"
@@ -79,7 +81,10 @@ class Replicas:
     """
 
     def __init__(self, replicas: Sequence[Hashable]) -> None:
-        self.keys = list(replicas)
+        try:
+            self.keys = list(replicas)
+        except TypeError:
+            raise NotRepresentable(f"the replicas are {replicas!r}: expected a list of their names") from None
         if not 1 <= len(self.keys) <= MAX_REPLICAS or len(set(self.keys)) != len(self.keys):
             raise NotRepresentable(
                 f"expected 1 to {MAX_REPLICAS} replicas with distinct names, got {self.keys!r}"
@@ -88,11 +93,11 @@ class Replicas:
         free = _free_names(valid)
         self.names = [str(it) if it in valid else next(free) for it in self.keys]
         self.initial_names = tuple(self.names)
-        self._index_of = {it: index for index, it in enumerate(self.keys)}
+        self.numbers = {it: index for index, it in enumerate(self.keys)}
 
     def check_join(self, replica: Hashable) -> None:
         """Raises `NotRepresentable` if this replica cannot join."""
-        if replica in self._index_of:
+        if replica in self.numbers:
             raise NotRepresentable(f"{replica!r} cannot join: a replica of this name exists, so choose another name")
         if len(self.keys) == MAX_REPLICAS:
             raise NotRepresentable(
@@ -105,12 +110,15 @@ class Replicas:
         self.check_join(replica)
         is_free = _is_name(replica) and replica not in self.names
         self.names.append(str(replica) if is_free else next(_free_names(set(self.names))))
-        self._index_of[replica] = len(self.keys)
+        self.numbers[replica] = len(self.keys)
         self.keys.append(replica)
 
     def index_of(self, replica: Hashable) -> int:
         """Returns the number of this replica, counted from 0."""
-        index = self._index_of.get(replica)
+        try:
+            index = self.numbers.get(replica)
+        except TypeError:
+            index = None
         if index is None:
             raise NotRepresentable(f"unknown replica {replica!r}: expected one of {self.keys!r}")
         return index

@@ -1,5 +1,5 @@
 """The identifiers of an OR-Set's elements at each replica, as they follow from the reports."""
-from typing import Dict, List, Set, Tuple
+from typing import Any, Dict, List, Set, Tuple
 
 
 # The effect of an update: its element, its identifiers, and whether they are added or removed. A plain tuple, since
@@ -21,6 +21,10 @@ class ObservedIdentifiers:
     def identifiers_of(self, replica: int, element: object) -> Tuple[int, ...]:
         """Returns the identifiers of this element at this replica."""
         return tuple(sorted(self._elements[replica].get(element, ())))
+
+    def elements_of(self, replica: int) -> List[Any]:
+        """Returns the elements that have an identifier at this replica."""
+        return [element for element, observed in self._elements[replica].items() if observed]
 
     def issue(self, replica: int, label: int, effect: Effect) -> None:
         """Records the effect of the update with this label, and applies it at the replica that issued it."""

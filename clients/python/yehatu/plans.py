@@ -1,141 +1,94 @@
-"""Random plans of what replicas do and which updates are delivered to them, determined by a seed."""
+"""Random plans of what replicas do and what the network does, determined by a seed."""
 import random
-from typing import Any, Dict, List, NamedTuple, Set, Tuple
+import re
+from typing import Any, List, Set, Tuple, Union
 
+from .delivery_state import DeliveryState
+from .network import Network
+from .profile import Traits
+from .steps import Step
+
+# The version of the planner. A seed means the same plan as long as this stays.
+VERSION = 2
+SEED = re.compile(r"(\d+)-(-?\d+)")
 # A set has few elements, so that updates of one element are concurrent.
 SET_ELEMENTS = 3
-MAX_DISCONNECTION = 25
-# The chance, at each step, that a state without new updates is merged.
-OLD_STATE_CHANCE = 0.1
-# The chance, at each step, that a further replica joins.
-JOIN_CHANCE = 0.15
-# The actions in which a replica receives the state of another one.
-COPYING = ("merge", "join")
+# The values around the bounds of the usual sizes of numbers. All are exact in JavaScript too.
+BOUNDARIES = (0, 1, 127, 128, 255, 256, 65535, 65536, 2**31 - 1, 2**31, 2**32 - 1, 2**32, 2**53 - 1)
+# The chance that a value is one of these.
+BOUNDARY_CHANCE = 0.15
+# The amounts of a counter with `increment(by)`, and the largest sum of all amounts of a run.
+AMOUNTS = (1, 1, 1, 2, 2, 127, 128, 255, 256)
+MAX_TOTAL = 300
+# The chance of a run in which one replica counts beyond seven bits, and the number of its increments.
+CLIMB_CHANCE, SHORTEST_CLIMB, LONGEST_CLIMB = 0.06, 200, 260
+# The chances, at each step, of events of the profile.
+OLD_STATE_CHANCE, JOIN_CHANCE, BURST_CHANCE = 0.1, 0.15, 0.05
+DUPLICATE_CHANCE, SNAPSHOT_CHANCE, LATE_CHANCE = 0.15, 0.1, 0.12
+SAVE_CHANCE, RESTART_CHANCE = 0.05, 0.06
+LONGEST_BURST = 8
+
+Seed = Union[int, str]
 
 
-class Step(NamedTuple):
-    """One step of a plan."""
+def parse_seed(seed: Seed) -> int:
+    """Returns the number of a seed, such as 17 or "2-17". Raises `ValueError` if it is of another version."""
+    if isinstance(seed, int) and not isinstance(seed, bool):
+        return seed
+    found = SEED.fullmatch(seed) if isinstance(seed, str) else None
+    if found is None:
+        raise ValueError(f"the seed {seed!r} is unknown: expected a whole number, or a text such as '{VERSION}-17'")
+    if int(found[1]) != VERSION:
+        raise ValueError(
+            f"the seed {seed!r} is of version {found[1]} of the planner, and this is version {VERSION}, which plans "
+            "another run for it: run the stored failure again with replay(make_replica, PATH)"
+        )
+    return int(found[2])
 
-    action: str
-    """`update`, `deliver`, `merge`, `read` or `join`."""
-    replica: int
-    update: int = 0
-    """The number of the update that is issued or delivered; in a merge or a join, the replica whose state is copied."""
-    method: str = ""
-    arguments: Tuple[Any, ...] = ()
 
-
-class DeliveryState:
-    """The updates that were delivered to each replica, those that each update sees, and the visible list elements.
-
-    Deliveries are causal, so the updates of one replica are delivered to another in their order, and a count
-    represents them.
-    """
-
-    def __init__(self, kind: str, replicas: int) -> None:
-        self.visible: List[List[Any]] = [[] for _ in range(replicas)]
-        self._kind = kind
-        # For each replica, how many updates of each other one were delivered to it.
-        self._delivered = [[0] * replicas for _ in range(replicas)]
-        self._issued: List[List[Step]] = [[] for _ in range(replicas)]
-        # For each update its replica, its position among that replica's updates, and the counts of those that it sees.
-        self._origins: Dict[int, Tuple[int, int, Tuple[int, ...]]] = {}
-
-    def can_update(self, step: Step) -> bool:
-        """Returns whether the replica shows the element that a list's update names."""
-        if self._kind != "rga" or step.arguments[0] is None:
-            return True
-        return step.arguments[0] in self.visible[step.replica]
-
-    def update(self, step: Step) -> None:
-        """Records that the replica of this step issues its update."""
-        issued = self._issued[step.replica]
-        self._origins[step.update] = (step.replica, len(issued), tuple(self._delivered[step.replica]))
-        issued.append(step)
-        self.deliver(step.replica, step.update)
-
-    def can_deliver(self, replica: int, update: int) -> bool:
-        """Returns whether all that the update sees, and not the update itself, was delivered to the replica."""
-        if update not in self._origins:
-            return False
-        issuer, position, seen = self._origins[update]
-        delivered = self._delivered[replica]
-        return delivered[issuer] == position and all(before <= own for before, own in zip(seen, delivered))
-
-    def is_behind(self, replica: int, sender: int) -> bool:
-        """Returns whether the sender has an update that the replica lacks."""
-        return any(own < other for own, other in zip(self._delivered[replica], self._delivered[sender]))
-
-    def deliverable(self, replica: int, senders: Set[int]) -> List[int]:
-        """Returns the updates of these senders that can be delivered to the replica."""
-        delivered = self._delivered[replica]
-        following = [
-            self._issued[it][delivered[it]].update for it in sorted(senders) if delivered[it] < len(self._issued[it])
-        ]
-        return [it for it in following if self.can_deliver(replica, it)]
-
-    def deliver(self, replica: int, update: int) -> None:
-        """Records that the update is applied at the replica."""
-        issuer, position, _ = self._origins[update]
-        step = self._issued[issuer][position]
-        self._delivered[replica][issuer] = position + 1
-        if step.method == "insert_after":
-            self.visible[replica].append(step.arguments[1])
-        elif step.method == "remove" and step.arguments[0] in self.visible[replica]:
-            self.visible[replica].remove(step.arguments[0])
-
-    def join(self, replica: int, source: int) -> None:
-        """Records that the replica, which is new, joins with a copy of the source's state."""
-        self._delivered[replica] = list(self._delivered[source])
-        self.visible[replica] = list(self.visible[source])
-
-    def merge(self, replica: int, sender: int) -> None:
-        """Records that the replica merges the state of the sender."""
-        own_counts, sender_counts = self._delivered[replica], self._delivered[sender]
-        missing = [
-            it.update
-            for issued, own, other in zip(self._issued, own_counts, sender_counts)
-            for it in issued[own:other]
-        ]
-        # Updates are numbered in the order in which they were issued, so this order is causal.
-        for update in sorted(missing):
-            self.deliver(replica, update)
+def format_seed(seed: int) -> str:
+    """Returns the seed with the version of the planner."""
+    return f"{VERSION}-{seed}"
 
 
 class Planner:
-    """The maker of one plan. With `join`, some replicas are initial and some of the others join."""
+    """The maker of one plan. If replicas fork, some of them are initial and some of the others join."""
 
-    def __init__(
-        self, kind: str, replicas: int, operations: int, seed: int, merges: bool, join: bool = False
-    ) -> None:
-        self._kind, self._remaining, self._merges = kind, operations, merges
+    def __init__(self, kind: str, replicas: int, operations: int, seed: int, traits: Traits) -> None:
+        self._kind, self._operations, self._remaining, self._traits = kind, operations, operations, traits
         # The seed is a text, so that plans of neighbouring seeds have nothing in common.
-        self._random = random.Random(f"{kind} {replicas} {operations} {seed}")
+        self._random = random.Random(f"{VERSION} {kind} {replicas} {operations} {seed}")
         self._replicas = replicas
-        self._present = range(self._random.randint(1, replicas) if join else replicas)
+        self._present = range(self._random.randint(1, replicas) if traits.forks else replicas)
+        self._network = Network(self._random, replicas, operations)
         self._state = DeliveryState(kind, replicas)
         self._steps: List[Step] = []
         self._updates = 0
-        self._disconnected_until = [0] * replicas
+        self._total = 0
+        self._states: List[Tuple[int, Tuple[int, ...]]] = []
+        self._reordering = self._random.uniform(0.2, 0.9) if traits.profile.delivery == "any" else 0.0
+        self._methods = list(traits.methods)
+        self._weights = [traits.weights[it] for it in self._methods]
+        self._boundaries = self._random.sample(BOUNDARIES, len(BOUNDARIES))
+        self._elements = self._choose_elements()
+        self._used: Set[int] = set()
+        self._smallest = 1
 
     def plan(self) -> List[Step]:
         """Returns operations, deliveries and reads. Most plans end with all pending deliveries; all end with reads."""
         reads, deliveries = self._random.uniform(0.1, 0.3), self._random.uniform(0.3, 0.6)
+        if self._kind == "counter" and self._operations >= 10 and self._random.random() < CLIMB_CHANCE:
+            self._climb()
         while self._remaining > 0:
             chance = self._random.random()
             if chance < reads:
                 self._add(Step("read", self._random.choice(self._present)))
             elif chance >= reads + deliveries or not self._deliver():
-                self._update()
-            if len(self._present) < self._replicas and self._random.random() < JOIN_CHANCE:
-                self._join()
-            if self._merges and self._random.random() < OLD_STATE_CHANCE:
-                self._merge_old_state()
-            if self._random.random() < 0.03:
-                replica = self._random.choice(self._present)
-                self._disconnected_until[replica] = len(self._steps) + self._random.randint(5, MAX_DISCONNECTION)
+                self._update(self._random.choice(self._present))
+            self._network.advance(len(self._steps), self._present)
+            self._plan_events()
         if self._random.random() < 0.8:
-            self._disconnected_until = [0 for _ in self._present]
+            self._network.recover()
             while self._deliver():
                 pass
         self._steps += [Step("read", it) for it in self._present]
@@ -144,27 +97,69 @@ class Planner:
     def _add(self, step: Step) -> None:
         self._steps.append(step)
 
-    def _connected(self) -> Set[int]:
-        return {it for it in self._present if self._disconnected_until[it] <= len(self._steps)}
+    def _plan_events(self) -> None:
+        """Adds what the profile allows beside operations, deliveries and reads."""
+        profile, draw = self._traits.profile, self._random.random
+        if len(self._present) < self._replicas and draw() < JOIN_CHANCE:
+            self._join()
+        if draw() < BURST_CHANCE:
+            self._burst()
+        if self._traits.merges and draw() < OLD_STATE_CHANCE:
+            self._merge_old_state()
+        if profile.duplicates and draw() < DUPLICATE_CHANCE:
+            self._duplicate()
+        if profile.late_states:
+            self._use_late_states()
+        if profile.restarts:
+            self._restart()
+
+    # Deliveries.
 
     def _deliver(self) -> bool:
-        """Adds a delivery between two connected replicas, in any causal order. Returns False if there is none."""
-        connected = self._connected()
-        if self._merges:
-            return self._deliver_state(connected)
-        ready = [(it, update) for it in sorted(connected) for update in self._state.deliverable(it, connected)]
+        """Adds a delivery between two connected replicas. Returns `False` if there is none."""
+        if self._traits.merges:
+            return self._deliver_state()
+        reorders = self._reordering and self._random.random() < self._reordering
+        ready = self._arriving(any_order=True) if reorders else self._arriving(any_order=False)
+        if not ready and self._reordering:
+            ready = self._arriving(any_order=True)
         if ready:
             replica, update = self._random.choice(ready)
-            self._state.deliver(replica, update)
+            if self._reordering:
+                self._state.arrive(replica, update)
+            else:
+                self._state.deliver(replica, update)
             self._add(Step("deliver", replica, update))
         return bool(ready)
 
-    def _deliver_state(self, connected: Set[int]) -> bool:
-        replicas = sorted(connected)
-        ready = [(it, sender) for it in replicas for sender in replicas if self._state.is_behind(it, sender)]
+    def _arriving(self, any_order: bool) -> List[Tuple[int, int]]:
+        """Returns the messages that can arrive, each with its receiver: in causal order or in any."""
+        state, network, now = self._state, self._network, len(self._steps)
+        found: List[Tuple[int, int]] = []
+        for replica in self._present:
+            delivered, waiting = state.delivered[replica], state.waiting[replica]
+            for sender in self._present:
+                issued, first = state.issued[sender], delivered[sender]
+                if sender == replica or first == len(issued) or not network.are_connected(replica, sender):
+                    continue
+                for it in issued[first:] if any_order else (issued[first],):
+                    number = it.number
+                    if not network.is_due(number, replica, now) or number in waiting:
+                        continue
+                    if any_order or state.can_deliver(replica, number):
+                        found.append((replica, number))
+        return found
+
+    def _deliver_state(self) -> bool:
+        ready = [
+            (it, sender)
+            for it in self._present
+            for sender in self._present
+            if self._state.is_behind(it, sender) and self._network.are_connected(it, sender)
+        ]
         if ready:
             replica, sender = self._random.choice(ready)
-            self._state.merge(replica, sender)
+            self._state.merge(replica, self._state.counts(sender))
             self._add(Step("merge", replica, sender))
         return bool(ready)
 
@@ -174,33 +169,97 @@ class Planner:
         if old:
             self._add(Step("merge", *self._random.choice(old)))
 
+    # Events of the profile.
+
     def _join(self) -> None:
         joining, source = len(self._present), self._random.choice(self._present)
         self._present = range(joining + 1)
         self._state.join(joining, source)
         self._add(Step("join", joining, source))
 
-    def _update(self) -> None:
-        self._remaining -= 1
-        self._updates += 1
+    def _burst(self) -> None:
+        for _ in range(self._random.randint(2, LONGEST_BURST)):
+            if not self._deliver():
+                return
+
+    def _duplicate(self) -> None:
         replica = self._random.choice(self._present)
-        method, arguments = self._choose_operation(replica)
+        repeatable = self._state.repeatable(replica)
+        if repeatable:
+            self._add(Step("duplicate", replica, self._random.choice(repeatable)))
+
+    def _use_late_states(self) -> None:
+        """Takes a state for later, or merges one of those that were taken."""
+        if self._random.random() < SNAPSHOT_CHANCE:
+            sender = self._random.choice(self._present)
+            self._states.append((sender, self._state.counts(sender)))
+            self._add(Step("snapshot", sender, len(self._states)))
+        if self._states and self._random.random() < LATE_CHANCE:
+            number, replica = self._random.randint(1, len(self._states)), self._random.choice(self._present)
+            sender, counts = self._states[number - 1]
+            if replica != sender:
+                self._state.merge(replica, counts)
+                self._add(Step("merge_snapshot", replica, number))
+
+    def _restart(self) -> None:
+        """Saves the state of a replica, or restarts one."""
+        chance = self._random.random()
+        if chance < SAVE_CHANCE:
+            self._add(Step("save", self._random.choice(self._present)))
+        elif chance < SAVE_CHANCE + RESTART_CHANCE:
+            self._add(Step("restart", self._random.choice(self._present)))
+
+    # Operations.
+
+    def _climb(self) -> None:
+        """Lets one replica count in one direction, so that the value needs more than seven bits."""
+        replica = self._random.choice(self._present)
+        method = self._random.choices(self._methods, self._weights)[0]
+        for _ in range(self._random.randint(SHORTEST_CLIMB, LONGEST_CLIMB)):
+            self._issue(replica, method, (1,) if self._traits.amounts else ())
+            self._total += 1
+        self._add(Step("read", replica))
+
+    def _update(self, replica: int) -> None:
+        self._remaining -= 1
+        self._issue(replica, *self._choose_operation(replica))
+
+    def _issue(self, replica: int, method: str, arguments: Tuple[Any, ...]) -> None:
+        self._updates += 1
         step = Step("update", replica, self._updates, method, arguments)
         self._state.update(step)
+        self._network.send(self._updates, len(self._steps))
         self._add(step)
 
     def _choose_operation(self, replica: int) -> Tuple[str, Tuple[Any, ...]]:
+        method = self._random.choices(self._methods, self._weights)[0]
         if self._kind == "counter":
-            return self._random.choice(("increment", "decrement")), ()
+            return method, self._choose_amount() if self._traits.amounts else ()
         if self._kind == "register":
-            return "write", (self._updates,)
-        visible = sorted(set(self._state.visible[replica]))
-        if self._kind == "rga":
-            if visible and self._random.random() < 0.25:
-                return "remove", (self._random.choice(visible),)
-            return "insert_after", (self._random.choice([None, *visible]), self._updates)
-        return self._choose_set_operation()
+            return method, (self._new_value(),)
+        if self._kind != "rga":
+            return method, (self._random.choice(self._elements),)
+        visible = self._state.visible[replica]
+        if method == "remove" and visible:
+            return method, (self._random.choice(visible),)
+        return "insert_after", (self._random.choice([None, *visible]), self._new_value())
 
-    def _choose_set_operation(self) -> Tuple[str, Tuple[Any, ...]]:
-        element = self._random.randint(1, SET_ELEMENTS)
-        return self._random.choice(("add", "add", "remove")), (element,)
+    def _choose_amount(self) -> Tuple[int]:
+        amount = self._random.choice([it for it in AMOUNTS if it == 1 or self._total + it <= MAX_TOTAL])
+        self._total += amount
+        return (amount,)
+
+    def _new_value(self) -> int:
+        """Returns a value that the plan did not use before: a small one, or one of the boundaries."""
+        is_boundary = self._boundaries and self._random.random() < BOUNDARY_CHANCE
+        value = self._boundaries[-1] if is_boundary else self._smallest
+        while value in self._used:
+            value = self._smallest = self._smallest + 1
+        self._used.add(value)
+        if value in self._boundaries:
+            self._boundaries.remove(value)
+        return value
+
+    def _choose_elements(self) -> List[int]:
+        small = range(1, SET_ELEMENTS + 1)
+        return self._random.sample(BOUNDARIES, SET_ELEMENTS) if self._random.random() < BOUNDARY_CHANCE else [*small]

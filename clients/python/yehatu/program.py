@@ -1,11 +1,13 @@
 """The search for the program, and its runs on whole histories."""
+import contextlib
 import json
 import os
 import re
 import shutil
 import subprocess
+import tempfile
 from pathlib import Path
-from typing import Any, Dict, List, NamedTuple, Optional, Union
+from typing import IO, Any, Dict, List, NamedTuple, Optional, Union
 
 from .errors import MonitorExited
 
@@ -14,6 +16,8 @@ CHECK_PROGRAM = REPOSITORY / "crates" / "ra_check_cli" / "out" / "ra_check_cli"
 EXPLAIN_PROGRAM = REPOSITORY / "crates" / "ra_explain_cli" / "out" / "ra_explain_cli"
 # The longest time that an explanation may take, in seconds.
 EXPLAIN_TIMEOUT = 60
+# The largest text that is written to the program's input at once. Every pipe holds that much.
+MAX_PIPED = 4096
 # The exit statuses of a run that read its whole input: a pass, a violation, and a pass with a rejected report.
 COMPLETE = (0, 1, 3)
 # The standard error of a run that could not parse its input.
@@ -59,15 +63,50 @@ def find_for_many_runs(program: Program = None) -> str:
     return str(CHECK_PROGRAM)
 
 
+class Check:
+    """The program on a whole history, which it checks while the caller does other things."""
+
+    def __init__(self, program: str, text: bytes) -> None:
+        self._program, self._text = program, text
+        is_short = len(text) <= MAX_PIPED
+        pipe = subprocess.PIPE
+        with contextlib.ExitStack() as stack:
+            source = pipe if is_short else stack.enter_context(_file_of(text))
+            try:
+                self._process = subprocess.Popen([program, "check"], stdin=source, stdout=pipe, stderr=pipe)
+            except OSError as error:
+                raise MonitorExited(f"{program} could not be started: {error}") from error
+        if is_short:
+            self._write()
+
+    def _write(self) -> None:
+        with contextlib.suppress(BrokenPipeError), self._process.stdin as stdin:  # type: ignore[union-attr]
+            stdin.write(self._text)
+        self._process.stdin = None
+
+    def wait(self) -> CheckResult:
+        """Waits for the program and returns its replies."""
+        stdout, stderr = self._process.communicate()
+        if self._process.returncode not in COMPLETE:
+            raise MonitorExited(describe_exit(self._program, self._process.returncode, stderr, self._text))
+        return CheckResult(stdout.decode("ascii", "replace").splitlines(), self._process.returncode)
+
+    def stop(self) -> None:
+        """Kills the program."""
+        self._process.kill()
+        self._process.communicate()
+
+
+def _file_of(text: bytes) -> "IO[bytes]":
+    file = tempfile.TemporaryFile()
+    file.write(text)
+    file.seek(0)
+    return file
+
+
 def check_text(program: str, text: bytes) -> CheckResult:
     """Checks a whole history and returns the replies."""
-    try:
-        ran = subprocess.run([program, "check"], input=text, capture_output=True)
-    except OSError as error:
-        raise MonitorExited(f"{program} could not be started: {error}") from error
-    if ran.returncode not in COMPLETE:
-        raise MonitorExited(describe_exit(program, ran.returncode, ran.stderr, text))
-    return CheckResult(ran.stdout.decode("ascii", "replace").splitlines(), ran.returncode)
+    return Check(program, text).wait()
 
 
 def explain_violation(program: Optional[str], text: str) -> Optional[Dict[str, Any]]:

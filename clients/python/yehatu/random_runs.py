@@ -1,19 +1,37 @@
 """Random runs of the user's own replicas, and the smallest history of the first failure."""
 import sys
 import time
-from typing import Any, Callable, Hashable, Iterable, List, Sequence, Union
+from collections import deque
+from typing import Any, Callable, Deque, Dict, Hashable, Iterable, Iterator, List, Mapping, Optional, Sequence, Tuple
+from typing import Union
 
 from . import program as programs
-from .errors import NotLinearizable, Refused, ReplicaRaised, ReportFailed
-from .failure_report import save_history
-from .plans import Planner, Step
+from .errors import NotRepresentable
+from .operations import operations_of
+from .plans import Planner, Seed, format_seed, parse_seed
+from .profile import Traits, default_names, traits_of
 from .program import Program
-from .runs import Failure, Setting, capabilities_of, find_failure
+from .random_failures import create_error, create_flaky
+from .runs import Failure, Run, Setting, find_failure
 from .shrinking import shrink
+from .steps import METHOD_OF, Step, renumbered
+from .stored import load
 
 # The shortest time between two lines of progress, in seconds.
 PROGRESS_INTERVAL = 2.0
-LETTERS = "abcdefghijklmnopqrstuvwxyz"
+# The number of histories that are checked while the next run is executed.
+OVERLAP = 4
+# The number of times that a failed run is run again before it is shrunk.
+REPEATS = 2
+# What the command line of a test framework sets in the place of the numbers `seeds` and `operations`.
+OVERRIDES: Dict[str, int] = {}
+
+
+class Runs(int):
+    """The number of runs that passed."""
+
+    unused: Tuple[str, ...] = ()
+    """The operations of the kind that the class does not have, so that they were not tried."""
 
 
 class _Progress:
@@ -35,53 +53,132 @@ def check_random(
     kind: str,
     replicas: Union[int, Sequence[Hashable]] = 3,
     operations: int = 30,
-    seeds: Union[int, Iterable[int]] = 100,
+    seeds: Union[int, Iterable[Seed]] = 100,
     *,
+    delivery: str = "causal",
+    duplicates: bool = False,
+    late_states: Optional[bool] = None,
+    restarts: Optional[bool] = None,
+    weights: Optional[Mapping[str, float]] = None,
     program: Program = None,
-) -> int:
+    failure: Optional[str] = None,
+) -> Runs:
     """Tests replicas in random runs, one for each seed, and returns the number of runs.
 
     Args:
         make_replica: Creates the replica of a name. A replica has the methods of its kind (`increment` and
             `decrement`, `write(value)`, `add(element)` and `remove(element)`, or `insert_after(anchor, element)` and
-            `remove(element)`), `read()`, and `receive(message)`.
+            `remove(element)`), `read()`, and `receive(message)`. A type that only grows has no `decrement` or `remove`.
         replicas: The names of the replicas in the order in which the type breaks ties, lowest first, or their number.
         operations: The number of operations of a run.
-        seeds: The seeds, or their number, counted from 0.
+        seeds: The seeds, such as 17 or "2-17" with the version of the planner, or their number, counted from 0.
+        delivery: `causal` if the transport delivers in causal order, or `any` if the type buffers messages itself.
+        duplicates: Whether a message may arrive again.
+        late_states: Whether a state may be merged later than it was taken. By default, a type that merges promises it.
+        restarts: Whether a replica restarts from what it saved. By default, a type with `save()` and `load(saved)` does.
+        weights: The relative frequency of each method, such as `{"remove": 3}`.
+        failure: The file for the steps of a failure. By default it is a temporary one beside the history.
 
     An update returns the message that the other replicas receive. The message has, as attributes or keys, the `stamp`
     of a write, of an LWW set's update or of an insertion, and the `identifier` or `identifiers` of an OR-Set's update
     if the type exposes them. A type whose states are merged has `state()` and `merge(state)` instead of `receive`. If
-    a replica has `fork(name)`, which returns a copy of it under this name, some replicas join during the run.
+    a replica has `fork(name)`, which returns a copy of it under this name, some replicas join during the run. If the
+    methods of a counter take an amount `by`, amounts up to 256 are tried.
 
     Raises:
         NotLinearizable: A run has a violation.
         Refused: The program rejected a report.
         ReplicaRaised: A replica raised an exception.
+        FlakyRun: A run failed, and the same steps did not fail in the same way again.
 
-    The failed run is shrunk first. The message has the seed and the small history, and `history` is its file.
+    The failed run is shrunk first. The message has the seed, the small history, the faults of the network that are at
+    work in it, and a test of its own. `history` is the file with the history, and `steps` the one for `replay`.
     """
-    names: List[Hashable] = _default_names(replicas) if isinstance(replicas, int) else list(replicas)
-    setting = Setting(make_replica, kind, names, programs.find_for_many_runs(program))
-    capabilities = capabilities_of(setting)
-    chosen = range(seeds) if isinstance(seeds, int) else seeds
+    names, count, chosen = _checked_arguments(replicas, operations, seeds)
+    promised = {"delivery": delivery, "duplicates": duplicates, "late_states": late_states, "restarts": restarts}
+    traits = traits_of(make_replica, kind, names[0], promised, weights)
+    setting = Setting(make_replica, kind, names, programs.find_for_many_runs(program), traits.profile)
     progress = _Progress(f"check_random {kind}")
     runs = 0
-    for seed in chosen:
-        steps = Planner(kind, len(names), operations, seed, *capabilities).plan()
-        failure = find_failure(setting, steps)
+    plans = ((it, Planner(kind, len(names), count, it, traits).plan()) for it in chosen)
+    for seed, steps, found in _overlapped(setting, plans):
         runs += 1
-        if failure is not None:
-            raise _create_error(setting, _shrink(setting, failure, progress), seed, runs, failure)
+        if found is not None:
+            raise _create_error(setting, steps, found, format_seed(seed), runs, progress, failure)
         progress.report(f"{runs} runs passed so far")
     if runs == 0:
         raise ValueError("there are no seeds, so nothing was run: pass at least one")
-    return runs
+    return _result(runs, kind, traits)
 
 
-def _default_names(count: int) -> List[Hashable]:
-    """Returns this number of names in rising order."""
-    return list(LETTERS[:count]) if count <= len(LETTERS) else [f"r{number:02}" for number in range(count)]
+def _checked_arguments(replicas: Any, operations: Any, seeds: Any) -> Tuple[List[Hashable], int, List[int]]:
+    """Returns the names, the number of operations, and the seeds. Raises `ValueError` if one is none of these."""
+    for name, value, least in (("replicas", replicas, 1), ("operations", operations, 0), ("seeds", seeds, 0)):
+        if isinstance(value, bool) or (isinstance(value, int) and value < least):
+            raise ValueError(f"{name}={value!r}: expected at least {least}")
+    if not isinstance(operations, int):
+        raise ValueError(f"operations={operations!r}: expected a whole number")
+    try:
+        names = default_names(replicas) if isinstance(replicas, int) else list(replicas)
+        chosen = range(OVERRIDES.get("seeds", seeds)) if isinstance(seeds, int) else seeds
+        numbers = [parse_seed(it) for it in chosen]
+    except TypeError:
+        raise ValueError(
+            f"replicas={replicas!r}, seeds={seeds!r}: expected for each a whole number or a list"
+        ) from None
+    if not names:
+        raise ValueError(f"replicas={replicas!r}: expected at least one name")
+    return names, OVERRIDES.get("operations", operations), numbers
+
+
+def _overlapped(
+    setting: Setting, plans: Iterable[Tuple[int, List[Step]]]
+) -> Iterator[Tuple[int, List[Step], Optional[Failure]]]:
+    """Yields the seed, the steps and the failure of each plan in turn, while the next ones are executed."""
+    pending: Deque[Tuple[int, List[Step], Run]] = deque()
+    try:
+        for seed, steps in plans:
+            try:
+                pending.append((seed, steps, Run(setting, steps)))
+            except NotRepresentable:
+                # An earlier run that failed is reported first.
+                yield from _finished(pending, 0)
+                raise
+            yield from _finished(pending, OVERLAP)
+        yield from _finished(pending, 0)
+    finally:
+        for _, _, run in pending:
+            run.stop()
+
+
+def _finished(
+    pending: Deque[Tuple[int, List[Step], Run]], most: int
+) -> Iterator[Tuple[int, List[Step], Optional[Failure]]]:
+    """Yields the oldest runs until at most this number is pending."""
+    while len(pending) > most:
+        seed, steps, run = pending.popleft()
+        yield seed, steps, run.find_failure()
+
+
+def _result(runs: int, kind: str, traits: Traits) -> Runs:
+    result = Runs(runs)
+    result.unused = tuple(it for it in operations_of(kind) if it not in traits.methods)
+    if result.unused:
+        print(f"check_random {kind}: the type has no {', '.join(result.unused)}, so it was not tried", file=sys.stderr)
+    return result
+
+
+def _create_error(
+    setting: Setting, steps: List[Step], found: Failure, seed: str, runs: int, progress: _Progress, path: Optional[str]
+) -> Exception:
+    summary = f"run {runs}, seed {seed}"
+    for _ in range(REPEATS):
+        again = find_failure(setting, steps)
+        if again is None or again.cause != found.cause:
+            return create_flaky(setting, found, again, seed, summary, path)
+    small = _shrink(setting, found, progress)
+    shrunk = f"{summary}, shrunk from {len(found.steps)} steps to {len(small.steps)}"
+    return create_error(setting, small, seed, shrunk, path)
 
 
 def _shrink(setting: Setting, failure: Failure, progress: _Progress) -> Failure:
@@ -95,32 +192,38 @@ def _shrink(setting: Setting, failure: Failure, progress: _Progress) -> Failure:
         progress.report(f"a run failed with {len(failure.steps)} steps; shrunk to {smallest} so far")
         return result
 
-    return shrink(failure, run)
+    small = shrink(failure, run)
+    # The messages of the small run are numbered from 1.
+    numbered = find_failure(setting, renumbered(small.steps))
+    return numbered if numbered is not None and numbered.cause == small.cause else small
 
 
-def _create_error(setting: Setting, small: Failure, seed: int, runs: int, failure: Failure) -> ReportFailed:
-    report = small.recorder.failure_report(small.text)
-    saved = save_history(small.text, None)
-    table = f"{small.text}\n{report.format_commands(small.replies)}"
-    shrunk = f"shrunk from {len(failure.steps)} steps to {len(small.steps)}"
-    details = f"run {runs}, seed {seed}, {shrunk}; the history is {saved}:\n{table}"
-    if small.raised is not None:
-        call = f"{_describe_call(setting, small.steps[-1])} raised {small.raised!r}"
-        error: ReportFailed = ReplicaRaised(f"{call}\n{details}", call, "", saved)
-        error.__cause__ = small.raised
-        return error
-    reply = small.replies[-1]
-    operation = report.describe(len(report.commands) - 1)
-    kind = NotLinearizable if small.cause == ("no",) else Refused
-    return kind(f"{report.summarize(small.text, reply, setting.program)}\n{details}", operation, reply, saved)
+def replay(make_replica: Callable[[Hashable], Any], path: str, *, program: Program = None) -> int:
+    """Runs the steps of a stored failure again, and returns their number if they pass.
 
+    Args:
+        make_replica: Creates the replica of a name, as for `check_random`.
+        path: The file that `check_random` wrote.
 
-def _describe_call(setting: Setting, step: Step) -> str:
-    """Returns the call of a replica's method that a step makes."""
-    name, arguments = setting.replicas[step.replica], ", ".join(repr(it) for it in step.arguments)
-    if step.action == "join":
-        return f"{setting.replicas[step.update]!r}: fork({name!r})"
-    if step.action == "merge":
-        return f"{name!r}: merge(state of {setting.replicas[step.update]!r})"
-    calls = {"update": f"{step.method}({arguments})", "deliver": f"receive(message {step.update})", "read": "read()"}
-    return f"{name!r}: {calls[step.action]}"
+    Steps that the class cannot execute any more are left out.
+
+    Raises:
+        ReportFailed: The run still fails. The exception is the same as that of `check_random`.
+        ValueError: The file is no stored failure.
+    """
+    stored = load(path)
+    setting = Setting(
+        make_replica, stored.kind, stored.replicas, programs.find_for_many_runs(program), stored.profile
+    )
+    replica = make_replica(stored.replicas[0])
+    steps = [it for it in stored.steps if callable(getattr(replica, METHOD_OF.get(it.action) or it.method, None))]
+    if not steps:
+        raise ValueError(f"{path}: the class has none of the methods that the stored steps call, so nothing was run")
+    run = Run(setting, steps)
+    found = run.find_failure()
+    if found is None:
+        return len(run.executed)
+    same = found.cause == stored.cause
+    cause = f"in another way ({' '.join(found.cause)}, and then {' '.join(stored.cause)})"
+    summary = f"the stored run of seed {stored.seed} {'still fails' if same else f'fails {cause}'}"
+    raise create_error(setting, found, stored.seed, summary, None, stored=path)

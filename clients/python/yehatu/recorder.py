@@ -1,43 +1,19 @@
 """Reports what replicas do, in the user's own names."""
-import threading
-from typing import (
-    Any,
-    Callable,
-    ContextManager,
-    Dict,
-    Hashable,
-    Iterable,
-    List,
-    NamedTuple,
-    Optional,
-    Sequence,
-    Tuple,
-    Union,
-)
+import sys
+from typing import Any, Callable, ContextManager, Hashable, Iterable, Optional, Sequence, Union
 
-from . import operations
+from . import unclosed
 from .errors import NotRepresentable
-from .failure_report import FailureReport, create_error
 from .monitor import Monitor, Report
-from .observed import Effect, ObservedIdentifiers
 from .operations import Operation, Stamp
 from .program import Program
+from .reports import Act, Reports, Seen
 from .translation import Translator
 
-Act = Optional[Callable[[], Any]]
-# The update of a message: its label, its replica, and its position among that replica's updates. A plain tuple, since
-# the garbage collector does not track plain tuples of numbers.
-Message = Tuple[int, int, int]
+__all__ = ["Recorder", "Seen"]
 
 
-class Seen(NamedTuple):
-    """The updates that had been delivered to a replica at one moment, as a count for each replica."""
-
-    replica: Hashable
-    counts: Sequence[int]
-
-
-class Recorder:
+class Recorder(Reports):
     """A reporter for replicas with any names, given in the order in which the type breaks ties, lowest first.
 
     Each call is one step: it runs the act and reports it before the act of another thread runs. So an act must not
@@ -49,6 +25,9 @@ class Recorder:
     does each later call. With a `window` of 1 the call itself raises. The history is then written to the file
     `history`. `nothing` is the result of a register's read before the first write. A `monitor` receives the lines
     instead of a program.
+
+    A recorder that is neither closed nor stopped warns, and lets the process end with status 3, since its last
+    reports were not checked. With `must_close=False` it does neither.
     """
 
     def __init__(
@@ -61,40 +40,48 @@ class Recorder:
         history: Optional[str] = None,
         nothing: Any = None,
         monitor: Any = None,
+        must_close: bool = True,
     ) -> None:
-        self._translator = Translator(kind, replicas, nothing)
-        names = self._translator.replicas.names
-        self._monitor = monitor or Monitor(kind, names, program=program, window=window)
-        self._lock = threading.RLock()
-        self._history = history
-        self._labels = 0
-        self._commands = 0
-        # Lines that a failure report prints before the command of a number, which say whose state is merged.
-        self._notes: Dict[int, List[str]] = {}
-        # For each replica, how many updates of each other one were delivered to it.
-        self._delivered = [[0] * len(names) for _ in names]
-        # For each replica, the labels of its updates.
-        self._updates: List[List[int]] = [[] for _ in names]
-        self._messages: Dict[Hashable, Message] = {}
-        self._observed = ObservedIdentifiers(len(names)) if kind == "orset" else None
-        self._failure: Optional[Exception] = None
+        translator = Translator(kind, replicas, nothing)
+        own = None if monitor else Monitor(kind, translator.replicas.names, program=program, window=window)
+        post_line = own.post_line if own else _without_end(monitor.post)
+        super().__init__(translator, monitor or own, post_line, history)
+        if must_close:
+            place = sys._getframe(1)
+            created = f"{place.f_code.co_filename}:{place.f_lineno}"
+            self._open_key = unclosed.register(f"the Recorder({kind!r}, ..) that was created at {created}")
+
+    def __del__(self) -> None:
+        unclosed.collect(getattr(self, "_open_key", None))
 
     # Steps of any kind.
 
     def update(
-        self, replica: Hashable, operation: Union[Operation, Callable[[Any], Operation]], *, act: Act = None,
-        message: Any = None,
+        self, replica: Hashable, operation: Union[Operation, Sequence[Operation], Callable[[Any], Any]], *,
+        act: Act = None, message: Any = None,
     ) -> Any:
-        """Reports an update, and returns the result of the act. `message` is the key that its deliveries name."""
-        return self._step(replica, act, self._update, operation, message)
+        """Reports an update, and returns the result of the act. `message` is the key that its deliveries name.
+
+        A list of operations is a composition: it is reported as these operations in their order, with one message.
+        """
+        return self._step("update", replica, act, self._update, operation, message)
 
     def deliver(self, replica: Hashable, message: Any, *, act: Act = None) -> Any:
         """Reports that the replica applies the message of this key. A repeated delivery runs the act alone."""
-        return self._step(replica, act, self._deliver_message, message)
+        if act is None and not callable(message):
+            with self._lock:
+                index = self._enter(replica, "deliver", message)
+                try:
+                    label, issuer, position, count = self._messages[message]
+                except (KeyError, TypeError):
+                    count = 0
+                if count == 1:
+                    return self._deliver_label(index, label, issuer, position)
+        return self._step("deliver", replica, act, self._deliver_message, message)
 
     def merge(self, replica: Hashable, messages: Union[Seen, Iterable[Hashable]], *, act: Act = None) -> Any:
         """Reports that the replica merges a state, given by its messages or by what another replica had `seen`."""
-        return self._step(replica, act, self._merge, messages)
+        return self._step("merge", replica, act, self._merge, messages)
 
     def join(self, replica: Hashable, source: Hashable, *, act: Act = None) -> Any:
         """Reports that a new replica joins with a copy of the source's state, which the act makes.
@@ -108,13 +95,18 @@ class Recorder:
         def check() -> None:
             self._translator.replicas.check_join(replica)
 
-        return self._step(source, act, report, before=check)
+        return self._step("join", source, act, report, before=check)
 
     def read(self, replica: Hashable, value: Any) -> Any:
         """Reports a read of this value, or of the value that this function returns. Returns the value."""
         if callable(value):
-            return self._step(replica, value, self._read, _identity)
-        self._step(replica, None, self._read, value)
+            return self._step("read", replica, value, self._read, _identity)
+        with self._lock:
+            index = self._enter(replica, "read", value)
+            try:
+                self._read(index, value)
+            except NotRepresentable as error:
+                self._fail(error, "read", replica, value)
         return value
 
     def seen(self, replica: Hashable) -> Seen:
@@ -128,53 +120,69 @@ class Recorder:
 
     # The operations of each kind.
 
-    def increment(self, replica: Hashable, *, act: Act = None, message: Any = None) -> Any:
-        """Reports a counter's increment by one."""
-        return self._step(replica, act, self._update, operations.increment(), message)
+    def increment(self, replica: Hashable, by: int = 1, *, act: Act = None, message: Any = None) -> Any:
+        """Reports a counter's increment by one, or by an amount from 1 to 256, as that number of increments."""
+        return self._count("increment", replica, by, act, message)
 
-    def decrement(self, replica: Hashable, *, act: Act = None, message: Any = None) -> Any:
-        """Reports a counter's decrement by one."""
-        return self._step(replica, act, self._update, operations.decrement(), message)
+    def decrement(self, replica: Hashable, by: int = 1, *, act: Act = None, message: Any = None) -> Any:
+        """Reports a counter's decrement by one, or by an amount from 1 to 256, as that number of decrements."""
+        return self._count("decrement", replica, by, act, message)
+
+    def _count(self, word: str, replica: Hashable, by: int, act: Act, message: Any) -> Any:
+        if act is None and by == 1:
+            return self._quick(word, replica, None, None, None, None, message)
+        self._check_amount(word, replica, by)
+
+        def report(index: int, message: Hashable) -> None:
+            self._update(index, [Operation(word)] * by, message)
+
+        return self._step(word, replica, act, report, message)
 
     def write(
         self, replica: Hashable, value: Hashable, stamp: Union[Stamp, Callable[[Any], Stamp]], *, act: Act = None,
         message: Any = None,
     ) -> Any:
         """Reports a register's write of this value."""
-        def report(index: int, stamp: Stamp, message: Hashable) -> None:
-            self._update(index, operations.write(value, stamp), message)
-
-        return self._step(replica, act, report, stamp, message)
+        if act is None:
+            return self._quick("write", replica, value, None, stamp, None, message)
+        return self._step("write", replica, act, self._issue_named("write", value), None, stamp, None, message)
 
     def add(
         self, replica: Hashable, element: Hashable, stamp: Any = None, *, identifier: Any = None, act: Act = None,
         message: Any = None,
     ) -> Any:
         """Reports a set's addition, with the stamp of an LWW set or the identifier of an OR-Set."""
-        def report(index: int, stamp: Any, identifier: Any, message: Hashable) -> None:
-            self._update(index, operations.add(element, stamp, identifier), message)
-
-        return self._step(replica, act, report, stamp, identifier, message)
+        if act is None:
+            return self._quick("add", replica, element, None, stamp, identifier, message)
+        return self._step("add", replica, act, self._issue_named("add", element), None, stamp, identifier, message)
 
     def remove(
         self, replica: Hashable, element: Hashable, stamp: Any = None, *, identifiers: Any = None, act: Act = None,
         message: Any = None,
     ) -> Any:
         """Reports a removal, with the stamp of an LWW set or the identifiers of an OR-Set."""
-        def report(index: int, stamp: Any, identifiers: Any, message: Hashable) -> None:
-            self._update(index, operations.remove(element, stamp, identifiers), message)
+        if act is None:
+            return self._quick("remove", replica, element, None, stamp, identifiers, message)
+        report = self._issue_named("remove", element)
+        return self._step("remove", replica, act, report, None, stamp, identifiers, message)
 
-        return self._step(replica, act, report, stamp, identifiers, message)
+    def clear(self, replica: Hashable, stamps: Any = None, *, act: Act = None, message: Any = None) -> Any:
+        """Reports that a set removes all that the replica shows by the reports, as a removal of each element.
+
+        The removals are in the order in which the elements were first used. Those of an LWW set need `stamps`: a
+        mapping from elements to stamps, or the stamps in that order.
+        """
+        return self._step("clear", replica, act, self._clear, stamps, message)
 
     def insert_after(
         self, replica: Hashable, anchor: Hashable, element: Hashable, stamp: Union[Stamp, Callable[[Any], Stamp]], *,
         act: Act = None, message: Any = None,
     ) -> Any:
         """Reports a list's insertion directly behind the anchor, or at the start if that is None."""
-        def report(index: int, stamp: Stamp, message: Hashable) -> None:
-            self._update(index, operations.insert_after(anchor, element, stamp), message)
-
-        return self._step(replica, act, report, stamp, message)
+        if act is None:
+            return self._quick("insert_after", replica, element, anchor, stamp, None, message)
+        report = self._issue_named("insert_after", element)
+        return self._step("insert_after", replica, act, report, anchor, stamp, None, message)
 
     # The end.
 
@@ -189,10 +197,11 @@ class Recorder:
 
         A `NotRepresentable` that was raised after an act is raised again, since no later step was checked.
         """
-        try:
-            report = self._monitor.close()
-        finally:
-            with self._lock:
+        unclosed.close(self._open_key)
+        with self._lock:
+            try:
+                report: Report = self._monitor.close()
+            finally:
                 self._raise_failure()
         return report
 
@@ -207,6 +216,7 @@ class Recorder:
 
     def stop(self) -> None:
         """Ends the history without waiting for replies."""
+        unclosed.close(self._open_key)
         self._monitor.stop()
 
     def history(self) -> str:
@@ -217,129 +227,10 @@ class Recorder:
         """Returns the first two lines of the text."""
         return self._translator.header()
 
-    def failure_report(self, text: str) -> FailureReport:
-        """Returns a report on this text of this recorder, without the messages' keys."""
-        return FailureReport(self._translator, text, {}, self._notes)
 
-    # Under the lock.
-
-    def _step(
-        self, replica: Hashable, act: Act, report: Callable[..., None], *arguments: Any, before: Act = None
-    ) -> Any:
-        """Runs `before` and the act, and calls `report` with the replica's number and the arguments.
-
-        An argument that is a function is replaced by its result for the act's result.
-        """
-        with self._lock:
-            if self._failure is not None or self._monitor.unexpected is not None:
-                self._raise_failure()
-            index = self._translator.replicas.index_of(replica)
-            if before is not None:
-                before()
-            result = None if act is None else act()
-            try:
-                report(index, *[it(result) if callable(it) else it for it in arguments])
-            except NotRepresentable as error:
-                # The act has run and is not reported, so the monitor would check later steps against a wrong history.
-                self._failure = error
-                raise
-            return result
-
-    def _raise_failure(self) -> None:
-        if self._failure is None and self._monitor.unexpected is not None:
-            command, reply = self._monitor.unexpected
-            text = self._monitor.history(command + 1)
-            keys = {message[0]: key for key, message in self._messages.items()}
-            report = FailureReport(self._translator, text, keys, self._notes)
-            program = getattr(self._monitor, "program", None)
-            self._failure = create_error(report, text, reply, self._history, program)
-        if self._failure is not None:
-            raise self._failure
-
-    def _post(self, line: str, expected: str) -> None:
-        self._commands += 1
-        self._monitor.post(line, expected)
-        if self._monitor.unexpected is not None:
-            self._raise_failure()
-
-    def _update(self, replica: int, operation: Operation, message: Hashable) -> None:
-        if message is not None and message in self._messages:
-            raise NotRepresentable(f"the message {message!r} was reported before: each message needs its own key")
-        label, effect = self._labels, None
-        if self._observed is not None:
-            operation, effect = self._number_identifiers(replica, operation)
-        line = self._translator.operation_line(replica, operation)
-        self._labels += 1
-        if message is not None:
-            self._messages[message] = (label, replica, len(self._updates[replica]))
-        self._updates[replica].append(label)
-        self._delivered[replica][replica] += 1
-        if effect is not None and self._observed is not None:
-            self._observed.issue(replica, label, effect)
-        self._post(line, f"ok {label}")
-
-    def _number_identifiers(self, replica: int, operation: Operation) -> Tuple[Operation, Effect]:
-        """Returns the operation of an OR-Set with numbers as identifiers, and its effect."""
-        numbering, is_addition = self._translator.identifiers, operation.word == "add"
-        if operation.identifiers is not None:
-            numbers = tuple([numbering.number_of(it) for it in operation.identifiers])
-        elif is_addition:
-            numbers = (numbering.reserve(),)
-        else:
-            numbers = self._observed.identifiers_of(replica, operation.value)  # type: ignore[union-attr]
-        numbered = Operation(operation.word, operation.value, None, None, numbers)
-        return numbered, (operation.value, numbers, is_addition)
-
-    def _deliver_message(self, replica: int, message: Hashable) -> None:
-        self._deliver(replica, self._find_message(message))
-
-    def _deliver(self, replica: int, message: Message) -> None:
-        label, issuer, position = message
-        delivered = self._delivered[replica]
-        if position < delivered[issuer]:
-            return
-        delivered[issuer] = position + 1
-        if self._observed is not None:
-            self._observed.deliver(replica, label)
-        self._post(self._translator.delivery_line(replica, label), f"got {label}")
-
-    def _merge(self, replica: int, messages: Union[Seen, Iterable[Hashable]]) -> None:
-        if isinstance(messages, Seen):
-            delivered = self._delivered[replica]
-            note = f"{self._translator.replicas.keys[replica]!r} merges the state of {messages.replica!r}"
-            self._notes.setdefault(self._commands, []).append(note)
-            merged = [
-                (self._updates[issuer][position], issuer, position)
-                for issuer, count in enumerate(messages.counts)
-                for position in range(delivered[issuer], count)
-            ]
-        else:
-            merged = [self._find_message(it) for it in messages]
-        # Labels are numbered in the order of the reports, so this order is causal.
-        for message in sorted(merged):
-            self._deliver(replica, message)
-
-    def _join(self, replica: Hashable, source: int) -> None:
-        line, index = self._translator.join(replica, source), len(self._delivered)
-        self._delivered.append(list(self._delivered[source]))
-        for delivered in self._delivered:
-            delivered.append(0)
-        self._updates.append([])
-        if self._observed is not None:
-            self._observed.join(source)
-        self._post(line, f"joined {index}")
-
-    def _read(self, replica: int, value: Any) -> None:
-        line = self._translator.read_line(replica, value)
-        label = self._labels
-        self._labels += 1
-        self._post(line, f"ok {label}")
-
-    def _find_message(self, message: Hashable) -> Message:
-        found = self._messages.get(message)
-        if found is None:
-            raise NotRepresentable(f"unknown message {message!r}: report the update that sends it before its delivery")
-        return found
+def _without_end(post: Callable[[str, str], None]) -> Callable[[str, str], None]:
+    """Returns a function that posts lines with their ends to a monitor that takes them without."""
+    return lambda line, expected: post(line[:-1], expected)
 
 
 def _identity(result: Any) -> Any:

@@ -1,8 +1,9 @@
 """Shrinks a failed run as long as it fails for the same cause. Each attempt is a real run."""
-from typing import Callable, Iterator, List, Optional, Sequence
+from typing import Callable, Dict, Iterator, List, Optional, Sequence, Set, Tuple
 
-from .plans import COPYING, Step
+from .delivery_state import DeliveryState
 from .runs import Failure
+from .steps import COPYING, RECEIVING, Step, renumbered
 
 Run = Callable[[Sequence[Step]], Optional[Failure]]
 Strategy = Callable[[List[Step]], Iterator[List[Step]]]
@@ -12,16 +13,34 @@ MAX_STEPS_FOR_PAIRS = 16
 
 
 def shrink(failure: Failure, run: Run) -> Failure:
-    """Returns a run from which no replica, no update and no other step can be removed."""
+    """Returns a run from which no replica, no update and no other step can be removed, and no message delayed."""
+    run = _without_repetition(run)
     while True:
         smaller = _apply_strategies(failure, run)
-        if len(smaller.steps) == len(failure.steps):
+        if not _is_smaller(smaller.steps, failure.steps):
             return smaller
         failure = smaller
 
 
+def _without_repetition(run: Run) -> Run:
+    """Returns a function that runs each plan once, and returns `None` for one that it was called with before."""
+    tried: Set[Tuple[Step, ...]] = set()
+
+    def run_once(steps: Sequence[Step]) -> Optional[Failure]:
+        # Plans that differ only in the numbers of their updates are equal.
+        key = tuple(renumbered(steps))
+        try:
+            is_new = key not in tried
+            tried.add(key)
+        except TypeError:
+            is_new = True
+        return run(steps) if is_new else None
+
+    return run_once
+
+
 def _apply_strategies(failure: Failure, run: Run) -> Failure:
-    for strategy in (_remove_replica, _unite_replicas, _remove_range, _remove_update, _remove_pair):
+    for strategy in (_remove_replica, _unite_replicas, _remove_range, _remove_update, _merge_at_once, _calm, _remove_pair):
         failure = _apply_strategy(failure, run, strategy)
     return failure
 
@@ -33,22 +52,49 @@ def _apply_strategy(failure: Failure, run: Run, strategy: Strategy) -> Failure:
         has_shrunk = False
         for steps in strategy(failure.steps):
             result = run(steps)
-            if result is not None and result.cause == failure.cause and len(result.steps) < len(failure.steps):
+            if result is not None and result.cause == failure.cause and _is_smaller(result.steps, failure.steps):
                 failure, has_shrunk = result, True
                 break
     return failure
 
 
+def _is_smaller(steps: Sequence[Step], others: Sequence[Step]) -> bool:
+    """Returns whether there are fewer steps, or as many of which fewer are deliveries out of order."""
+    if len(steps) != len(others):
+        return len(steps) < len(others)
+    return len(early_arrivals(steps)) < len(early_arrivals(others))
+
+
+def early_arrivals(steps: Sequence[Step]) -> Dict[int, int]:
+    """Returns the deliveries, by their places, that come before an update that theirs sees, and that update."""
+    replicas = 1 + max((max(it.replica, it.number if it.action in COPYING else 0) for it in steps), default=0)
+    state = DeliveryState("", replicas)
+    early: Dict[int, int] = {}
+    for place, step in enumerate(steps):
+        if step.action == "update":
+            state.update(step)
+        elif step.action == "join":
+            state.join(step.replica, step.number)
+        elif step.action == "merge":
+            state.merge(step.replica, state.counts(step.number))
+        elif step.action == "deliver" and state.can_arrive(step.replica, step.number):
+            cause = state.missing_cause(step.replica, step.number)
+            if cause:
+                early[place] = cause
+            state.arrive(step.replica, step.number)
+    return early
+
+
 def _remove_replica(steps: List[Step]) -> Iterator[List[Step]]:
     """Yields the steps without those of one replica and without all that it sent."""
     for replica in sorted({it.replica for it in steps}):
-        own = {it.update for it in steps if it.action == "update" and it.replica == replica}
+        own = {it.number for it in steps if it.action == "update" and it.replica == replica}
         yield [
             it
             for it in steps
             if it.replica != replica
-            and not (it.action == "deliver" and it.update in own)
-            and not (it.action in COPYING and it.update == replica)
+            and not (it.action in RECEIVING and it.number in own)
+            and not (it.action in COPYING and it.number == replica)
         ]
 
 
@@ -57,7 +103,7 @@ def _unite_replicas(steps: List[Step]) -> Iterator[List[Step]]:
     replicas = sorted({it.replica for it in steps})
     for removed, kept in ((one, other) for one in replicas for other in replicas if one != other):
         moved = [it._replace(replica=kept) if it.replica == removed else it for it in steps]
-        yield [it._replace(update=kept) if it.action in COPYING and it.update == removed else it for it in moved]
+        yield [it._replace(number=kept) if it.action in COPYING and it.number == removed else it for it in moved]
 
 
 def _remove_range(steps: List[Step]) -> Iterator[List[Step]]:
@@ -74,8 +120,27 @@ def _remove_range(steps: List[Step]) -> Iterator[List[Step]]:
 
 def _remove_update(steps: List[Step]) -> Iterator[List[Step]]:
     """Yields the steps without one update and its deliveries."""
-    for update in [it.update for it in steps if it.action == "update"]:
-        yield [it for it in steps if it.action not in ("update", "deliver") or it.update != update]
+    for update in [it.number for it in steps if it.action == "update"]:
+        yield [it for it in steps if it.action not in ("update", *RECEIVING) or it.number != update]
+
+
+def _merge_at_once(steps: List[Step]) -> Iterator[List[Step]]:
+    """Yields the steps with the current state in a merge, in the place of one that was taken early."""
+    taken = {it.number: it.replica for it in steps if it.action == "snapshot"}
+    for place, step in enumerate(steps):
+        if step.action == "merge_snapshot" and step.number in taken:
+            merge = Step("merge", step.replica, taken[step.number])
+            changed = [*steps[:place], merge, *steps[place + 1 :]]
+            yield [it for it in changed if it.action != "snapshot" or it.number != step.number]
+
+
+def _calm(steps: List[Step]) -> Iterator[List[Step]]:
+    """Yields the steps with one message delayed behind another of its replica, if it arrives before a cause."""
+    for place in early_arrivals(steps):
+        step = steps[place]
+        for later in range(place + 1, len(steps)):
+            if steps[later].action == "deliver" and steps[later].replica == step.replica:
+                yield [*steps[:place], *steps[place + 1 : later + 1], step, *steps[later + 1 :]]
 
 
 def _remove_pair(steps: List[Step]) -> Iterator[List[Step]]:

@@ -5,6 +5,9 @@ from .errors import NotRepresentable
 from .numbers import Clocks, Numbering, Replicas
 from .operations import Operation, Stamp, operations_of
 
+# Formats the value, the anchor, the stamp and the identifiers of an operation of the replica with this number.
+Formatter = Callable[[int, Any, Any, Any, Any], str]
+
 MIN_COUNT, MAX_COUNT = -(1 << 31), (1 << 31) - 1
 
 
@@ -22,9 +25,10 @@ class Translator:
         self._values = Numbering("a value" if kind == "register" else "an element")
         self._clocks = Clocks()
         self._nothing = nothing
-        formatters: Dict[str, Callable[[int, Operation], str]] = {
-            "increment": lambda replica, operation: "inc",
-            "decrement": lambda replica, operation: "dec",
+        self.number_of = self._values.number_of
+        formatters: Dict[str, Formatter] = {
+            "increment": lambda *fields: "inc",
+            "decrement": lambda *fields: "dec",
             "write": self._format_write,
             "add": self._format_addition,
             "remove": self._format_removal,
@@ -38,13 +42,17 @@ class Translator:
 
     def operation_line(self, replica: int, operation: Operation) -> str:
         """Returns the line of an update at this replica. The identifiers of an OR-Set's update are numbers."""
-        format_fields = self._formatters.get(operation.word)
-        if format_fields is None:
-            expected = " or ".join(self._formatters)
+        word, value, anchor, stamp, identifiers = operation
+        return f"{self.replicas.names[replica]} {self.formatter(word)(replica, value, anchor, stamp, identifiers)}"
+
+    def formatter(self, word: str) -> Formatter:
+        """Returns the function that formats the fields of an operation: its value, anchor, stamp and identifiers."""
+        found = self._formatters.get(word)
+        if found is None:
             raise NotRepresentable(
-                f"{operation.word} is not an operation of the kind {self.kind}: expected {expected}"
+                f"{word} is not an operation of the kind {self.kind}: expected {' or '.join(self._formatters)}"
             )
-        return f"{self.replicas.names[replica]} {format_fields(replica, operation)}"
+        return found
 
     def join(self, replica: Hashable, source: int) -> str:
         """Adds a replica that joins from the source, and returns the line of the join."""
@@ -61,46 +69,43 @@ class Translator:
 
     # The fields of a line after the replica's name.
 
-    def _format_write(self, replica: int, operation: Operation) -> str:
-        if _are_equal(operation.value, self._nothing):
+    def _format_write(self, replica: int, value: Any, anchor: Any, stamp: Any, identifiers: Any) -> str:
+        if value is self._nothing or _are_equal(value, self._nothing):
             raise NotRepresentable(
-                f"{operation.value!r} cannot be written, since it represents an unwritten register: "
+                f"{value!r} cannot be written, since it represents an unwritten register: "
                 "pass another `nothing` to the Recorder"
             )
-        return f"write {self._values.number_of(operation.value)} {self._format_clock(replica, operation.stamp)}"
+        return f"write {self.number_of(value)} @{self._clock_number(replica, stamp)}"
 
-    def _format_addition(self, replica: int, operation: Operation) -> str:
-        return f"add {self._values.number_of(operation.value)} {self._format_key(replica, operation)}"
-
-    def _format_removal(self, replica: int, operation: Operation) -> str:
-        if self.kind == "rga":
-            return f"remove {self._values.number_of(operation.value)}"
-        return f"remove {self._values.number_of(operation.value)} {self._format_key(replica, operation)}"
-
-    def _format_insertion(self, replica: int, operation: Operation) -> str:
-        anchor = 0 if operation.anchor is None else self._values.number_of(operation.anchor)
-        element = self._values.number_of(operation.value)
-        return f"after {anchor} {element} {self._format_clock(replica, operation.stamp)}"
-
-    def _format_key(self, replica: int, operation: Operation) -> str:
-        """Formats the stamp of an LWW set's update, or the identifiers of an OR-Set's update."""
+    def _format_addition(self, replica: int, value: Any, anchor: Any, stamp: Any, identifiers: Any) -> str:
         if self.kind == "lwwset":
-            return self._format_clock(replica, operation.stamp)
-        return "#" + _join_numbers(_sort_unique(operation.identifiers or ()))
+            return f"add {self.number_of(value)} @{self._clock_number(replica, stamp)}"
+        return f"add {self.number_of(value)} #{_join_numbers(_sort_unique(identifiers or ()))}"
 
-    def _format_clock(self, replica: int, stamp: "Stamp | None") -> str:
+    def _format_removal(self, replica: int, value: Any, anchor: Any, stamp: Any, identifiers: Any) -> str:
+        if self.kind == "rga":
+            return f"remove {self.number_of(value)}"
+        if self.kind == "lwwset":
+            return f"remove {self.number_of(value)} @{self._clock_number(replica, stamp)}"
+        return f"remove {self.number_of(value)} #{_join_numbers(_sort_unique(identifiers or ()))}"
+
+    def _format_insertion(self, replica: int, value: Any, anchor: Any, stamp: Any, identifiers: Any) -> str:
+        behind = 0 if anchor is None else self.number_of(anchor)
+        return f"after {behind} {self.number_of(value)} @{self._clock_number(replica, stamp)}"
+
+    def _clock_number(self, replica: int, stamp: "Stamp | None") -> int:
         if isinstance(stamp, (tuple, list)) and len(stamp) == 2:
             clock, issuer = stamp
-            if self.replicas.index_of(issuer) != replica:
+            if issuer != self.replicas.keys[replica] and self.replicas.index_of(issuer) != replica:
                 raise NotRepresentable(
                     f"the stamp {stamp!r} names another replica: expected {self.replicas.keys[replica]!r}"
                 )
-            return f"@{self._clocks.number_of(clock)}"
+            return self._clocks.number_of(clock)
         if stamp is None:
             raise NotRepresentable(
                 "the stamp is missing: pass the clock of the update, or the clock and the replica"
             )
-        return f"@{self._clocks.number_of(stamp)}"
+        return self._clocks.number_of(stamp)
 
     def _format_result(self, value: Any) -> str:
         if self.kind == "counter":
@@ -118,7 +123,7 @@ class Translator:
             raise NotRepresentable(
                 f"a read returned {value!r}: expected a list or another iterable of the elements"
             ) from None
-        numbers = [self._values.number_of(it) for it in elements]
+        numbers = [*map(self.number_of, elements)]
         return _join_numbers(numbers if self.kind == "rga" else _sort_unique(numbers))
 
     # Descriptions of lines in the user's names.
@@ -148,14 +153,26 @@ class Translator:
         return f"{verb} {self._values.thing_of(int(fields[0]))!r}{under}"
 
     def _describe_result(self, result: str) -> str:
+        return repr(self.result_of(result))
+
+    def result_of(self, field: str) -> Any:
+        """Returns the result of a read, from the last field of its line."""
         if self.kind == "counter":
-            return result
+            return int(field)
         if self.kind == "register":
-            return repr(self._nothing if result == "none" else self._values.thing_of(int(result)))
-        return "[" + ", ".join(repr(self._values.thing_of(it)) for it in _parse_numbers(result)) + "]"
+            return self._nothing if field == "none" else self._values.thing_of(int(field))
+        return [self._values.thing_of(it) for it in _parse_numbers(field)]
+
+    def thing_of(self, number: int) -> Any:
+        """Returns the value or the element with this number."""
+        return self._values.thing_of(number)
 
     def _describe_identifiers(self, identifiers: str) -> str:
-        things = (self.identifiers.thing_of(it) for it in _parse_numbers(identifiers))
+        return self.describe_identifiers(_parse_numbers(identifiers))
+
+    def describe_identifiers(self, numbers: Iterable[int]) -> str:
+        """Describes the identifiers with these numbers."""
+        things = map(self.identifiers.thing_of, numbers)
         return ", ".join("an unnamed one" if it is None else repr(it) for it in things) or "none"
 
 

@@ -1,0 +1,113 @@
+"""The exception for a failed random run: its message and its files."""
+import os
+from typing import Optional, Sequence, Tuple
+
+from .errors import FlakyRun, NotLinearizable, Refused, ReplicaRaised, ReportFailed
+from .failure_report import save_history
+from .faults import describe_faults
+from .regression import Expected, regression_test
+from .runs import Failure, Setting
+from .steps import Step
+from .stored import Stored, store
+
+# The largest number of lines of a history that a message shows.
+SHOWN_LINES = 40
+
+
+def create_error(
+    setting: Setting, small: Failure, seed: str, summary: str, failure: Optional[str], stored: Optional[str] = None
+) -> ReportFailed:
+    """Creates the exception for a shrunk run, and stores its history and its steps.
+
+    `summary` says which run it was. The steps are stored in the file `failure`, or beside the history; a run that was
+    `stored` before is not stored again.
+    """
+    history, path = _store(setting, small, seed, failure) if stored is None else (_beside(stored), stored)
+    report = small.recorder.failure_report(small.text)
+    reply = small.replies[-1] if small.raised is None else ""
+    explanation = report.explain(small.text, reply, setting.program)
+    faults = "; ".join(describe_faults(small.steps, setting.replicas))
+    parts = [f"at work: {faults}"] if faults else []
+    parts += [f"{summary}; the history is {history}, and the steps for replay are {path}:\n"]
+    parts += [_indented(_header(small.text)), report.format_commands(small.replies, most=SHOWN_LINES)]
+    if stored is None:
+        expected = report.expected_read(explanation) if small.steps[-1].action == "read" else None
+        parts += ["\nthe same as a test:\n", _indented(regression_test(
+            setting.make_replica, setting.kind, setting.replicas, small.steps, seed, expected and Expected(*expected),
+            small.raised is not None, path,
+        ))]
+    details = "\n".join(parts).rstrip()
+    if small.raised is not None:
+        call = f"{describe_call(setting, small.steps[-1])} raised {small.raised!r}"
+        error: ReportFailed = ReplicaRaised(f"{call}\n{details}", call, "", history)
+        error.__cause__ = small.raised
+    else:
+        operation = report.describe(len(report.commands) - 1)
+        kind = NotLinearizable if small.cause == ("no",) else Refused
+        error = kind(f"{report.summarize(reply, explanation)}\n{details}", operation, reply, history)
+    error.steps = path
+    return error
+
+
+def create_flaky(
+    setting: Setting, failure: Failure, again: Optional[Failure], seed: str, summary: str, path: Optional[str]
+) -> FlakyRun:
+    """Creates the exception for a run that did not fail in the same way again."""
+    history, stored = _store(setting, failure, seed, path)
+    operation, first = _answer(setting, failure)
+    second = "it passed" if again is None else _answer(setting, again)[1]
+    error = FlakyRun(
+        f"{summary} failed, and the same steps did not fail in the same way again: the class is not deterministic "
+        f"(random numbers, time, the order of a set, or what replicas share)\nat one time: {first}\n"
+        f"at another time: {second}\nthe history is {history}, and the steps are {stored}",
+        operation, "" if failure.raised is not None else failure.replies[-1], history,
+    )
+    error.steps = stored
+    return error
+
+
+def _answer(setting: Setting, failure: Failure) -> Tuple[str, str]:
+    """Returns what a replica did, and what came of it."""
+    if failure.raised is not None:
+        call = f"{describe_call(setting, failure.steps[-1])} raised {failure.raised!r}"
+        return call, call
+    report = failure.recorder.failure_report(failure.text)
+    return report.describe(len(report.commands) - 1), report.summarize(failure.replies[-1], None)
+
+
+def _store(setting: Setting, failure: Failure, seed: str, path: Optional[str]) -> Tuple[str, str]:
+    """Writes the history and the steps, and returns both paths."""
+    history = save_history(failure.text, None if path is None else _beside(path))
+    steps = path or f"{os.path.splitext(history)[0]}.json"
+    store(steps, Stored(
+        seed, setting.kind, list(setting.replicas), setting.profile, failure.steps, failure.cause, failure.text,
+    ))
+    return history, steps
+
+
+def _beside(path: str) -> str:
+    return f"{os.path.splitext(path)[0]}.rah"
+
+
+def _header(text: str) -> str:
+    return "".join(text.splitlines(True)[:2])
+
+
+def _indented(text: str) -> str:
+    return "\n".join(f"    {it}" if it else "" for it in text.splitlines())
+
+
+def describe_call(setting: Setting, step: Step) -> str:
+    """Returns the call of a replica's method that a step makes."""
+    names: Sequence[object] = setting.replicas
+    name, arguments = names[step.replica], ", ".join(repr(it) for it in step.arguments)
+    if step.action == "join":
+        return f"{names[step.number]!r}: fork({name!r})"
+    if step.action == "merge":
+        return f"{name!r}: merge(state of {names[step.number]!r})"
+    calls = {
+        "update": f"{step.method}({arguments})", "deliver": f"receive(message {step.number})", "read": "read()",
+        "duplicate": f"receive(message {step.number}) again", "snapshot": "state()", "save": "save()",
+        "merge_snapshot": f"merge(state {step.number}, which was taken earlier)", "restart": "load(saved state)",
+    }
+    return f"{name!r}: {calls[step.action]}"

@@ -1,0 +1,58 @@
+"""The steps of a random run, as plain values that can be stored."""
+from typing import Any, Dict, Iterable, List, NamedTuple, Sequence, Tuple
+
+# The actions in which a replica receives the current state of another one, whose number the step has.
+COPYING = ("merge", "join")
+# The actions in which a replica receives a message, whose number the step has.
+RECEIVING = ("deliver", "duplicate")
+# The method of a replica that each action calls; that of an update is in its step.
+METHOD_OF = {
+    "deliver": "receive", "duplicate": "receive", "merge": "merge", "snapshot": "state", "merge_snapshot": "merge",
+    "save": "save", "restart": "load", "join": "fork", "read": "read",
+}
+
+
+class Step(NamedTuple):
+    """One step of a plan."""
+
+    action: str
+    """`update`, `deliver`, `duplicate`, `merge`, `snapshot`, `merge_snapshot`, `save`, `restart`, `join` or `read`."""
+    replica: int
+    number: int = 0
+    """The number of the update that is issued or delivered, of the replica whose state is copied, or of the state that
+    is taken early and merged late."""
+    method: str = ""
+    arguments: Tuple[Any, ...] = ()
+
+
+def to_values(steps: Iterable[Step]) -> List[List[Any]]:
+    """Returns the steps as lists, for JSON."""
+    return [[it.action, it.replica, it.number, it.method, list(it.arguments)] for it in steps]
+
+
+def from_values(values: Sequence[Any]) -> List[Step]:
+    """Returns the steps of such lists. Raises `ValueError` if one is not a step."""
+    steps = []
+    for number, value in enumerate(values, 1):
+        try:
+            action, replica, update, method, arguments = value
+        except (TypeError, ValueError):
+            raise ValueError(f"step {number} is {value!r}: expected a list of five values") from None
+        if action != "update" and action not in METHOD_OF:
+            raise ValueError(f"step {number} has the action {action!r}: expected update, {', '.join(METHOD_OF)}")
+        steps.append(Step(action, replica, update, method, tuple(arguments)))
+    return steps
+
+
+def renumbered(steps: Sequence[Step]) -> List[Step]:
+    """Returns the steps with their updates, and their early states, numbered from 1 in their order."""
+    updates: Dict[int, int] = {}
+    states: Dict[int, int] = {}
+    result = []
+    for step in steps:
+        if step.action == "update" or step.action in RECEIVING:
+            step = step._replace(number=updates.setdefault(step.number, len(updates) + 1))
+        elif step.action in ("snapshot", "merge_snapshot"):
+            step = step._replace(number=states.setdefault(step.number, len(states) + 1))
+        result.append(step)
+    return result
