@@ -14,6 +14,13 @@ CLIENTS = Path(__file__).resolve().parents[2] / "clients"
 
 # Tests of Python that JavaScript has to get.
 FOLLOWING = {
+    "closing": [
+        "an_unclosed_recorder_ends_the_process_with_status_three",
+        "a_closed_recorder_ends_the_process_with_status_zero",
+        "a_process_that_failed_keeps_its_status",
+        "a_recorder_that_is_collected_unclosed_warns",
+        "a_recorder_whose_failure_was_raised_counts_as_closed",
+    ],
     "network": [
         "each_bug_of_a_network_is_found_and_named",
         "no_bug_of_a_network_is_found_where_the_network_has_no_fault",
@@ -31,6 +38,22 @@ FOLLOWING = {
         "a_seed_plans_no_value_twice",
         "what_a_type_cannot_promise_is_rejected",
         "a_profile_follows_from_the_methods_of_the_class",
+    ],
+    "operations": [
+        "an_amount_is_reported_as_that_number_of_increments",
+        "an_amount_that_cannot_be_counted_is_rejected_before_the_act",
+        "a_list_of_operations_is_one_message",
+        "a_composition_needs_a_new_message",
+        "clear_removes_what_the_replica_shows",
+        "clear_of_another_kind_or_with_too_few_stamps_is_rejected",
+        "an_error_names_the_call_and_what_was_looked_for",
+        "an_act_that_returns_a_coroutine_is_rejected",
+        "a_removal_with_wrong_identifiers_is_told_apart_from_a_lost_addition",
+        "bad_arguments_are_errors_in_words",
+        "a_type_that_only_grows_needs_no_removal_and_the_result_says_so",
+        "weights_change_how_often_a_method_is_called",
+        "weights_of_unknown_methods_are_rejected",
+        "amounts_are_tried_if_the_methods_take_them",
     ],
     "replay": [
         "a_seed_with_its_version_runs_the_same_plan",

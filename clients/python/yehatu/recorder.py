@@ -169,8 +169,8 @@ class Recorder(Reports):
     def clear(self, replica: Hashable, stamps: Any = None, *, act: Act = None, message: Any = None) -> Any:
         """Reports that a set removes all that the replica shows by the reports, as a removal of each element.
 
-        The removals are in the order in which the elements were first used. Those of an LWW set need `stamps`: a
-        mapping from elements to stamps, or the stamps in that order.
+        Those of an LWW set need `stamps`: a mapping from elements to stamps, or the stamps in the order in which the
+        elements were first used.
         """
         return self._step("clear", replica, act, self._clear, stamps, message)
 

@@ -218,13 +218,16 @@ class Reports:
         if self._observed is not None:
             self._update(replica, [operations.remove(it) for it in elements], message)
             return
-        given = [stamps.get(it) for it in elements] if isinstance(stamps, Mapping) else list(stamps or ())
-        if len(given) != len(elements):
+        if isinstance(stamps, Mapping):
+            pairs = sorted(((it, stamps[it]) for it in elements if it in stamps), key=lambda pair: _clock_of(pair[1]))
+        else:
+            pairs = [*zip(elements, stamps or ())]
+        if len(pairs) != len(elements):
             raise NotRepresentable(
-                f"{len(given)} stamps for the {len(elements)} elements that the replica shows, {elements!r}: "
+                f"{len(pairs)} stamps for the {len(elements)} elements that the replica shows, {elements!r}: "
                 "expected one for each, or a mapping from elements to stamps"
             )
-        self._update(replica, [operations.remove(*it) for it in zip(elements, given)], message)
+        self._update(replica, [operations.remove(*it) for it in pairs], message)
 
     def _shown(self, replica: int) -> List[Any]:
         """Returns the elements of a set that the replica shows by the reports, in the order of their numbers."""
@@ -303,6 +306,10 @@ class Reports:
         shown = [repr(it) for it, _ in zip(self._messages, range(SHOWN_MESSAGES))]
         left_out = len(self._messages) - len(shown)
         return f"known are {', '.join(shown)}{f' and {left_out} more' if left_out else ''}" if shown else "none is known"
+
+
+def _clock_of(stamp: Any) -> Any:
+    return stamp[0] if isinstance(stamp, (tuple, list)) else stamp
 
 
 def _call(word: str, replica: Hashable, arguments: Iterable[Any]) -> str:
