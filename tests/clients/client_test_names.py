@@ -21,6 +21,11 @@ FOLLOWING = {
         "a_recorder_that_is_collected_unclosed_warns",
         "a_recorder_whose_failure_was_raised_counts_as_closed",
     ],
+    "hypothesis": [
+        "plans_of_correct_replicas_pass",
+        "plans_find_a_bug",
+        "a_state_machine_runs_correct_replicas_and_finds_a_bug",
+    ],
     "network": [
         "each_bug_of_a_network_is_found_and_named",
         "no_bug_of_a_network_is_found_where_the_network_has_no_fault",
@@ -55,6 +60,10 @@ FOLLOWING = {
         "weights_of_unknown_methods_are_rejected",
         "amounts_are_tried_if_the_methods_take_them",
     ],
+    "pytest_plugin": [
+        "the_options_change_the_numbers_of_runs_and_operations",
+        "the_files_of_a_failure_are_kept",
+    ],
     "replay": [
         "a_seed_with_its_version_runs_the_same_plan",
         "a_seed_of_another_version_is_rejected",
@@ -73,6 +82,10 @@ FOLLOWING = {
         "a_run_that_does_not_fail_again_is_flaky",
         "a_failed_run_is_run_twice_more_before_it_is_shrunk",
         "a_run_that_fails_in_another_way_is_flaky",
+    ],
+    "types": [
+        "the_package_and_a_use_of_it_have_strict_types",
+        "a_wrong_use_is_rejected",
     ],
 }
 # Tests that one language alone can have, each with the reason.

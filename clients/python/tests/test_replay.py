@@ -18,6 +18,17 @@ TESTS = Path(__file__).resolve().parent
 TIES = planted.OBSERVABLE["ties are broken by arrival"]["register"]
 
 
+# The failures that were found before, since each is looked for and shrunk anew.
+KNOWN: Dict[Any, ReportFailed] = {}
+
+
+def known_failure(make: Any, kind: str) -> ReportFailed:
+    """Returns the exception of the first run that fails, once found."""
+    if make not in KNOWN:
+        KNOWN[make] = failure_of(make, kind)
+    return KNOWN[make]
+
+
 def failure_of(make: Any, kind: str, seeds: Any = 200, **options: Any) -> ReportFailed:
     """Returns the exception of the first run that fails."""
     try:
@@ -77,7 +88,7 @@ class Flaky(Counter):
 
 class Seeds(unittest.TestCase):
     def test_a_seed_with_its_version_runs_the_same_plan(self) -> None:
-        failed = failure_of(TIES, "register")
+        failed = known_failure(TIES, "register")
         seed = str(failed).partition("seed ")[2].partition(",")[0]
         self.assertRegex(seed, r"^2-\d+$")
         for again in ([seed], [int(seed[2:])]):
@@ -101,7 +112,7 @@ def _history(failed: ReportFailed) -> str:
 
 class StoredFailures(unittest.TestCase):
     def test_a_failure_is_stored_and_fails_again(self) -> None:
-        failed = failure_of(TIES, "register")
+        failed = known_failure(TIES, "register")
         self.assertEqual(failed.steps, f"{os.path.splitext(failed.history or '')[0]}.json")
         stored = json.loads(Path(failed.steps or "").read_text())
         self.assertEqual([*stored], ["version", "seed", "kind", "replicas", "profile", "steps", "cause", "history"])
@@ -113,16 +124,16 @@ class StoredFailures(unittest.TestCase):
         self.assertEqual(caught.exception.operation, failed.operation)
 
     def test_a_class_that_was_repaired_passes_the_stored_run(self) -> None:
-        failed = failure_of(TIES, "register")
+        failed = known_failure(TIES, "register")
         self.assertEqual(replay(Register, failed.steps or ""), 4)
 
     def test_steps_that_the_class_cannot_execute_are_left_out(self) -> None:
         case = PLANTED["forgets_its_clock"]
-        failed = failure_of(case.make, case.kind)
+        failed = known_failure(case.make, case.kind)
         # Without save and load the restart is left out.
         self.assertEqual(replay(saving(Register), failed.steps or ""), 3)
         with self.assertRaises(ReportFailed) as caught:
-            replay(Unrepaired, failure_of(Unrepaired, "register").steps or "")
+            replay(Unrepaired, known_failure(Unrepaired, "register").steps or "")
         self.assertIn("still fails", str(caught.exception))
         with self.assertRaisesRegex(ValueError, "the class has none of the methods"):
             replay(lambda name: object(), failed.steps or "")
@@ -132,7 +143,7 @@ class StoredFailures(unittest.TestCase):
             def receive(self, message: Any) -> None:
                 raise KeyError("else")
 
-        failed = failure_of(TIES, "register")
+        failed = known_failure(TIES, "register")
         with self.assertRaisesRegex(ReplicaRaised, r"fails in another way \(raised KeyError, and then no\)"):
             replay(Raising, failed.steps or "")
 
@@ -145,7 +156,7 @@ class StoredFailures(unittest.TestCase):
                 replay(TIES, path)
 
     def test_a_file_that_is_no_failure_is_rejected(self) -> None:
-        good: Dict[str, Any] = json.loads(Path(failure_of(TIES, "register").steps or "").read_text())
+        good: Dict[str, Any] = json.loads(Path(known_failure(TIES, "register").steps or "").read_text())
         with tempfile.TemporaryDirectory() as folder:
             path = Path(folder) / "failure.json"
             for text, message in [
@@ -177,7 +188,7 @@ class StoredFailures(unittest.TestCase):
 
 class Messages(unittest.TestCase):
     def test_the_history_is_printed_once(self) -> None:
-        message = str(failure_of(TIES, "register"))
+        message = str(known_failure(TIES, "register"))
         self.assertEqual(message.count("RAH 2 register"), 1)
         self.assertEqual(len([it for it in message.splitlines() if " write " in it]), 2)
 
@@ -219,7 +230,7 @@ class Messages(unittest.TestCase):
 
     def test_a_regression_test_without_an_assertion_replays_the_stored_run(self) -> None:
         case = PLANTED["forgets_its_clock"]
-        failed = failure_of(case.make, case.kind)
+        failed = known_failure(case.make, case.kind)
         source = source_of(failed)
         self.assertIn(f"replay(make_replica, {failed.steps!r})", source)
         ran = run_source(source, name="(lambda name: forgets_its_clock()(name))")

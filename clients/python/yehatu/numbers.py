@@ -53,7 +53,7 @@ class Clocks:
     def number_of(self, clock: Any) -> int:
         """Returns the number of this clock."""
         if clock.__class__ is int and self._offset == 0 and 1 <= clock <= MAX_NUMBER:
-            return clock
+            return clock  # type: ignore[no-any-return]
         if not isinstance(clock, int) or isinstance(clock, bool):
             raise NotRepresentable(
                 f"the clock {clock!r} is not a whole number: convert clocks to whole numbers in the same order"

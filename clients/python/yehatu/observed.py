@@ -20,7 +20,8 @@ class ObservedIdentifiers:
 
     def identifiers_of(self, replica: int, element: object) -> Tuple[int, ...]:
         """Returns the identifiers of this element at this replica."""
-        return tuple(sorted(self._elements[replica].get(element, ())))
+        observed = self._elements[replica].get(element, ())
+        return tuple(sorted(observed) if len(observed) > 1 else observed)
 
     def elements_of(self, replica: int) -> List[Any]:
         """Returns the elements that have an identifier at this replica."""

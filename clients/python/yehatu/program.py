@@ -71,7 +71,7 @@ class Check:
         is_short = len(text) <= MAX_PIPED
         pipe = subprocess.PIPE
         with contextlib.ExitStack() as stack:
-            source = pipe if is_short else stack.enter_context(_file_of(text))
+            source: Union[int, IO[bytes]] = pipe if is_short else stack.enter_context(_file_of(text))
             try:
                 self._process = subprocess.Popen([program, "check"], stdin=source, stdout=pipe, stderr=pipe)
             except OSError as error:
@@ -80,8 +80,10 @@ class Check:
             self._write()
 
     def _write(self) -> None:
-        with contextlib.suppress(BrokenPipeError), self._process.stdin as stdin:  # type: ignore[union-attr]
-            stdin.write(self._text)
+        stdin = self._process.stdin
+        if stdin is not None:
+            with contextlib.suppress(BrokenPipeError), stdin:
+                stdin.write(self._text)
         self._process.stdin = None
 
     def wait(self) -> CheckResult:
@@ -119,6 +121,12 @@ def explain_violation(program: Optional[str], text: str) -> Optional[Dict[str, A
     except ValueError:
         return None
     return explanation if isinstance(explanation, dict) and explanation.get("answer") == "no" else None
+
+
+def explain_page(program: str, text: bytes) -> bytes:
+    """Returns the page of `explain --html` about a history, or nothing if the program cannot explain."""
+    ran = _run_explain(program, text, "--html")
+    return ran.stdout if ran is not None and ran.returncode in COMPLETE else b""
 
 
 def describe_exit(program: str, status: Optional[int], stderr: bytes, text: bytes = b"") -> str:

@@ -8,7 +8,7 @@ from .monitor import Monitor, Report
 from .operations import Operation, Stamp
 from .program import Program
 from .reports import Act, Reports, Seen
-from .translation import Translator
+from .translation import COUNTING, MAX_COUNT, MIN_COUNT, Translator
 
 __all__ = ["Recorder", "Seen"]
 
@@ -103,6 +103,9 @@ class Recorder(Reports):
             return self._step("read", replica, value, self._read, _identity)
         with self._lock:
             index = self._enter(replica, "read", value)
+            if self._counts and value.__class__ is int and MIN_COUNT <= value <= MAX_COUNT:
+                self._post_result(index, str(value))
+                return value
             try:
                 self._read(index, value)
             except NotRepresentable as error:
@@ -129,6 +132,11 @@ class Recorder(Reports):
         return self._count("decrement", replica, by, act, message)
 
     def _count(self, word: str, replica: Hashable, by: int, act: Act, message: Any) -> Any:
+        if act is None and by == 1 and self._counts and not callable(message):
+            with self._lock:
+                index = self._enter(replica, word)
+                if message is None or message not in self._messages:
+                    return self._issue_fields(index, COUNTING[word], message)
         if act is None and by == 1:
             return self._quick(word, replica, None, None, None, None, message)
         self._check_amount(word, replica, by)
@@ -221,7 +229,7 @@ class Recorder(Reports):
 
     def history(self) -> str:
         """Returns the text so far, which `ra_monitor check` reads."""
-        return self._monitor.history()
+        return str(self._monitor.history())
 
     def header(self) -> str:
         """Returns the first two lines of the text."""

@@ -43,7 +43,8 @@ class Reports:
         names = translator.replicas.names
         self._open_key: Optional[Tuple[int, int]] = None
         self._translator, self._monitor, self._post_line, self._history = translator, monitor, post_line, history
-        self._numbers = translator.replicas.numbers
+        self._numbers, self._formatters = translator.replicas.numbers, translator.formatters
+        self._counts = translator.kind == "counter"
         # For each replica, the beginning of its lines.
         self._prefixes = [f"{it} " for it in names]
         self._lock = threading.RLock()
@@ -114,7 +115,7 @@ class Reports:
             index = self._enter(replica, word, *arguments)
             if before is not None:
                 before()
-            result = None if act is None else act()
+            result: Any = None if act is None else act()
             try:
                 if result.__class__ is CoroutineType:
                     result.close()
@@ -159,9 +160,9 @@ class Reports:
     def _update(self, replica: int, operation: Union[Operation, Sequence[Operation]], message: Hashable) -> None:
         if isinstance(operation, Operation):
             word, value, anchor, stamp, identifiers = operation
-            if word == "add" and identifiers is not None:
-                identifiers, = identifiers
-            self._issue(replica, word, value, anchor, stamp, identifiers, message)
+            is_one = word == "add" and identifiers is not None
+            named: Any = next(iter(identifiers or ())) if is_one else identifiers
+            self._issue(replica, word, value, anchor, stamp, named, message)
             return
         self._require_new(message)
         first = self._labels, replica, self._delivered[replica][replica]
@@ -174,20 +175,26 @@ class Reports:
         self, replica: int, word: str, value: Any, anchor: Any, stamp: Any, identifiers: Any, message: Hashable
     ) -> None:
         """Reports an operation of this replica. `identifiers` is the one identifier of an addition."""
+        if message is not None and message in self._messages:
+            self._require_new(message)
+        formatter = self._formatters.get(word) or self._translator.formatter(word)
+        if self._observed is None:
+            self._issue_fields(replica, formatter(replica, value, anchor, stamp, identifiers), message)
+            return
+        numbers = self._identifier_numbers(replica, word, value, identifiers)
+        fields = formatter(replica, value, anchor, stamp, numbers)
+        self._observed.issue(replica, self._labels, (value, numbers, word == "add"))
+        self._issue_fields(replica, fields, message)
+
+    def _issue_fields(self, replica: int, fields: str, message: Hashable) -> None:
+        """Reports an update of this replica, given by its line without the name."""
         label, own = self._labels, self._delivered[replica]
+        position = own[replica]
         if message is not None:
-            if message in self._messages:
-                self._require_new(message)
-            self._messages[message] = (label, replica, own[replica], 1)
-        observed = self._observed
-        if observed is not None:
-            identifiers = self._identifier_numbers(replica, word, value, identifiers)
-        fields = self._translator.formatter(word)(replica, value, anchor, stamp, identifiers)
+            self._messages[message] = (label, replica, position, 1)
+        own[replica] = position + 1
         self._labels = label + 1
         self._updates[replica].append(label)
-        own[replica] += 1
-        if observed is not None:
-            observed.issue(replica, label, (value, identifiers, word == "add"))
         self._post(f"{self._prefixes[replica]}{fields}\n", f"ok {label}")
 
     def _require_new(self, message: Hashable) -> None:
@@ -219,7 +226,7 @@ class Reports:
             self._update(replica, [operations.remove(it) for it in elements], message)
             return
         if isinstance(stamps, Mapping):
-            pairs = sorted(((it, stamps[it]) for it in elements if it in stamps), key=lambda pair: _clock_of(pair[1]))
+            pairs = sorted(((it, stamps[it]) for it in elements if it in stamps), key=_clock_of)
         else:
             pairs = [*zip(elements, stamps or ())]
         if len(pairs) != len(elements):
@@ -233,8 +240,10 @@ class Reports:
         """Returns the elements of a set that the replica shows by the reports, in the order of their numbers."""
         translator = self._translator
         if self._observed is not None:
-            return sorted(self._observed.elements_of(replica), key=translator.number_of)
-        names, commands = translator.replicas.names, self._monitor.history().splitlines()[2:]
+            elements: List[Any] = self._observed.elements_of(replica)
+            elements.sort(key=translator.number_of)
+            return elements
+        names, commands = translator.replicas.names, str(self._monitor.history()).splitlines()[2:]
         return [translator.thing_of(it) for it in shown_elements(commands, names[replica], names)]
 
     def _deliver_message(self, replica: int, message: Hashable) -> None:
@@ -285,10 +294,12 @@ class Reports:
         if value.__class__ is CoroutineType:
             value.close()
             raise NotRepresentable("the value is a coroutine, which no one awaits: read it, and report the result")
-        line = self._translator.read_line(replica, value)
+        self._post_result(replica, self._translator.format_result(value))
+
+    def _post_result(self, replica: int, result: str) -> None:
         label = self._labels
         self._labels = label + 1
-        self._post(f"{line}\n", f"ok {label}")
+        self._post(f"{self._prefixes[replica]}read {result}\n", f"ok {label}")
 
     def _find_message(self, message: Hashable) -> Message:
         try:
@@ -308,8 +319,10 @@ class Reports:
         return f"known are {', '.join(shown)}{f' and {left_out} more' if left_out else ''}" if shown else "none is known"
 
 
-def _clock_of(stamp: Any) -> Any:
-    return stamp[0] if isinstance(stamp, (tuple, list)) else stamp
+def _clock_of(pair: Tuple[Any, Any]) -> int:
+    """Returns the clock of an element's stamp, by which the removals are sorted."""
+    stamp = pair[1]
+    return int(stamp[0] if isinstance(stamp, (tuple, list)) else stamp)
 
 
 def _call(word: str, replica: Hashable, arguments: Iterable[Any]) -> str:

@@ -67,4 +67,5 @@ def _plain(name: Hashable) -> Any:
 
 
 def _hashable(name: Any) -> Hashable:
-    return tuple(map(_hashable, name)) if isinstance(name, list) else name
+    hashable: Hashable = tuple(map(_hashable, name)) if isinstance(name, list) else name
+    return hashable

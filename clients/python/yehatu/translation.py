@@ -3,11 +3,13 @@ from typing import Any, Callable, Collection, Dict, Hashable, Iterable, List, Se
 
 from .errors import NotRepresentable
 from .numbers import Clocks, Numbering, Replicas
-from .operations import Operation, Stamp, operations_of
+from .operations import Stamp, operations_of
 
 # Formats the value, the anchor, the stamp and the identifiers of an operation of the replica with this number.
 Formatter = Callable[[int, Any, Any, Any, Any], str]
 
+# The fields of a counter's operations.
+COUNTING = {"increment": "inc", "decrement": "dec"}
 MIN_COUNT, MAX_COUNT = -(1 << 31), (1 << 31) - 1
 
 
@@ -27,30 +29,24 @@ class Translator:
         self._nothing = nothing
         self.number_of = self._values.number_of
         formatters: Dict[str, Formatter] = {
-            "increment": lambda *fields: "inc",
-            "decrement": lambda *fields: "dec",
+            **{word: _constant(fields) for word, fields in COUNTING.items()},
             "write": self._format_write,
             "add": self._format_addition,
             "remove": self._format_removal,
             "insert_after": self._format_insertion,
         }
-        self._formatters = {it: formatters[it] for it in operations}
+        self.formatters = {it: formatters[it] for it in operations}
 
     def header(self) -> str:
         """Returns the first two lines."""
         return f"RAH 2 {self.kind}\nreplicas {' '.join(self.replicas.initial_names)}\n"
 
-    def operation_line(self, replica: int, operation: Operation) -> str:
-        """Returns the line of an update at this replica. The identifiers of an OR-Set's update are numbers."""
-        word, value, anchor, stamp, identifiers = operation
-        return f"{self.replicas.names[replica]} {self.formatter(word)(replica, value, anchor, stamp, identifiers)}"
-
     def formatter(self, word: str) -> Formatter:
         """Returns the function that formats the fields of an operation: its value, anchor, stamp and identifiers."""
-        found = self._formatters.get(word)
+        found = self.formatters.get(word)
         if found is None:
             raise NotRepresentable(
-                f"{word} is not an operation of the kind {self.kind}: expected {' or '.join(self._formatters)}"
+                f"{word} is not an operation of the kind {self.kind}: expected {' or '.join(self.formatters)}"
             )
         return found
 
@@ -59,18 +55,10 @@ class Translator:
         self.replicas.join(replica)
         return f"join {self.replicas.names[-1]} {self.replicas.names[source]}"
 
-    def delivery_line(self, replica: int, label: int) -> str:
-        """Returns the line of a delivery."""
-        return f"{self.replicas.names[replica]} got {label}"
-
-    def read_line(self, replica: int, value: Any) -> str:
-        """Returns the line of a read that returned this value."""
-        return f"{self.replicas.names[replica]} read {self._format_result(value)}"
-
     # The fields of a line after the replica's name.
 
     def _format_write(self, replica: int, value: Any, anchor: Any, stamp: Any, identifiers: Any) -> str:
-        if value is self._nothing or _are_equal(value, self._nothing):
+        if value is self._nothing or (value.__class__ is self._nothing.__class__ and value == self._nothing):
             raise NotRepresentable(
                 f"{value!r} cannot be written, since it represents an unwritten register: "
                 "pass another `nothing` to the Recorder"
@@ -80,6 +68,8 @@ class Translator:
     def _format_addition(self, replica: int, value: Any, anchor: Any, stamp: Any, identifiers: Any) -> str:
         if self.kind == "lwwset":
             return f"add {self.number_of(value)} @{self._clock_number(replica, stamp)}"
+        if identifiers and len(identifiers) == 1:
+            return f"add {self.number_of(value)} #{identifiers[0]}"
         return f"add {self.number_of(value)} #{_join_numbers(_sort_unique(identifiers or ()))}"
 
     def _format_removal(self, replica: int, value: Any, anchor: Any, stamp: Any, identifiers: Any) -> str:
@@ -94,6 +84,8 @@ class Translator:
         return f"after {behind} {self.number_of(value)} @{self._clock_number(replica, stamp)}"
 
     def _clock_number(self, replica: int, stamp: "Stamp | None") -> int:
+        if stamp.__class__ is int:
+            return self._clocks.number_of(stamp)
         if isinstance(stamp, (tuple, list)) and len(stamp) == 2:
             clock, issuer = stamp
             if issuer != self.replicas.keys[replica] and self.replicas.index_of(issuer) != replica:
@@ -107,7 +99,8 @@ class Translator:
             )
         return self._clocks.number_of(stamp)
 
-    def _format_result(self, value: Any) -> str:
+    def format_result(self, value: Any) -> str:
+        """Returns the last field of the line of a read that returned this value."""
         if self.kind == "counter":
             is_whole = isinstance(value, int) and not isinstance(value, bool)
             if not is_whole or not MIN_COUNT <= value <= MAX_COUNT:
@@ -174,6 +167,10 @@ class Translator:
         """Describes the identifiers with these numbers."""
         things = map(self.identifiers.thing_of, numbers)
         return ", ".join("an unnamed one" if it is None else repr(it) for it in things) or "none"
+
+
+def _constant(fields: str) -> Formatter:
+    return lambda *_: fields
 
 
 def is_join(line: str) -> bool:
