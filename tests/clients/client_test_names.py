@@ -21,11 +21,6 @@ FOLLOWING = {
         "a_recorder_that_is_collected_unclosed_warns",
         "a_recorder_whose_failure_was_raised_counts_as_closed",
     ],
-    "hypothesis": [
-        "plans_of_correct_replicas_pass",
-        "plans_find_a_bug",
-        "a_state_machine_runs_correct_replicas_and_finds_a_bug",
-    ],
     "network": [
         "each_bug_of_a_network_is_found_and_named",
         "no_bug_of_a_network_is_found_where_the_network_has_no_fault",
@@ -60,10 +55,6 @@ FOLLOWING = {
         "weights_of_unknown_methods_are_rejected",
         "amounts_are_tried_if_the_methods_take_them",
     ],
-    "pytest_plugin": [
-        "the_options_change_the_numbers_of_runs_and_operations",
-        "the_files_of_a_failure_are_kept",
-    ],
     "replay": [
         "a_seed_with_its_version_runs_the_same_plan",
         "a_seed_of_another_version_is_rejected",
@@ -92,6 +83,13 @@ FOLLOWING = {
 PYTHON_ALONE = {
     ("recorder", "a_value_that_is_not_hashable_is_rejected"): "in JavaScript anything can be the key of a Map",
     ("recorder", "an_exception_in_the_block_is_raised_unchanged"): "JavaScript has no `with` that closes a recorder",
+    ("hypothesis", "plans_of_correct_replicas_pass"): "Hypothesis is for Python",
+    ("hypothesis", "plans_find_a_bug"): "Hypothesis is for Python",
+    ("hypothesis", "a_state_machine_runs_correct_replicas_and_finds_a_bug"): "Hypothesis is for Python",
+    ("pytest_plugin", "the_options_change_the_numbers_of_runs_and_operations"): "pytest is for Python",
+    ("pytest_plugin", "the_files_of_a_failure_are_kept"): "pytest is for Python",
+    ("network", "a_class_method_may_load"): "a static method of JavaScript is not found on a fresh replica",
+    ("operations", "an_act_that_returns_a_coroutine_is_rejected"): "JavaScript awaits what an act returns",
     **{(file, name): "issue 59: the JavaScript client follows" for file, names in FOLLOWING.items() for name in names},
 }
 JAVASCRIPT_ALONE = {

@@ -190,7 +190,7 @@ class ReplicasThatJoin(unittest.TestCase):
     def test_a_copy_that_fails_is_reported(self) -> None:
         with self.assertRaises(ReplicaRaised) as caught:
             check_random(ForksRaise, "counter")
-        self.assertRegex(caught.exception.operation, r"^'a': fork\('([bc])'\) raised KeyError\('\1'\)$")
+        self.assertRegex(caught.exception.operation, r"^'[ab]': fork\('([bc])'\) raised KeyError\('\1'\)$")
 
 
 def require_small_failure(test: unittest.TestCase, failed: NotLinearizable) -> None:

@@ -28,7 +28,9 @@ def create_error(
     explanation = report.explain(small.text, reply, setting.program)
     faults = "; ".join(describe_faults(small.steps, setting.replicas))
     parts = [f"at work: {faults}"] if faults else []
-    parts += [f"{summary}; the history is {history}, and the steps for replay are {path}:\n"]
+    run = f"{summary}; " if stored is None else ""
+    first = "" if stored is None else f"{summary}: "
+    parts += [f"{run}the history is {history}, and the steps for replay are {path}:\n"]
     parts += [_indented(_header(small.text)), report.format_commands(small.replies, most=SHOWN_LINES)]
     if stored is None:
         expected = report.expected_read(explanation) if small.steps[-1].action == "read" else None
@@ -39,12 +41,12 @@ def create_error(
     details = "\n".join(parts).rstrip()
     if small.raised is not None:
         call = f"{describe_call(setting, small.steps[-1])} raised {small.raised!r}"
-        error: ReportFailed = ReplicaRaised(f"{call}\n{details}", call, "", history)
+        error: ReportFailed = ReplicaRaised(f"{first}{call}\n{details}", call, "", history)
         error.__cause__ = small.raised
     else:
         operation = report.describe(len(report.commands) - 1)
         kind = NotLinearizable if small.cause == ("no",) else Refused
-        error = kind(f"{report.summarize(reply, explanation)}\n{details}", operation, reply, history)
+        error = kind(f"{first}{report.summarize(reply, explanation)}\n{details}", operation, reply, history)
     error.steps = path
     return error
 

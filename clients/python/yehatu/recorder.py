@@ -70,7 +70,7 @@ class Recorder(Reports):
         """Reports that the replica applies the message of this key. A repeated delivery runs the act alone."""
         if act is None and not callable(message):
             with self._lock:
-                index = self._enter(replica, "deliver", message)
+                index = self._enter(replica, "deliver", (message,))
                 try:
                     label, issuer, position, count = self._messages[message]
                 except (KeyError, TypeError):
@@ -102,7 +102,7 @@ class Recorder(Reports):
         if callable(value):
             return self._step("read", replica, value, self._read, _identity)
         with self._lock:
-            index = self._enter(replica, "read", value)
+            index = self._enter(replica, "read", (value,))
             if self._counts and value.__class__ is int and MIN_COUNT <= value <= MAX_COUNT:
                 self._post_result(index, str(value))
                 return value

@@ -69,7 +69,7 @@ class Reports:
         """Returns a report on this text of this history."""
         return FailureReport(self._translator, text, self._keys_of_labels(), self._notes)
 
-    def _enter(self, replica: Hashable, word: str, *arguments: Any) -> int:
+    def _enter(self, replica: Hashable, word: str, arguments: Sequence[Any] = ()) -> int:
         """Returns the number of the replica. Raises the failure, if there is one."""
         if self._failure is not None or self._monitor.unexpected is not None:
             self._raise_failure()
@@ -90,7 +90,7 @@ class Reports:
             report = self._issue_named(word, value)
             return self._step(word, replica, None, report, anchor, stamp, identifiers, message)  # type: ignore
         with self._lock:
-            index = self._enter(replica, word, value, stamp)
+            index = self._enter(replica, word, (value, stamp))
             try:
                 self._issue(index, word, value, anchor, stamp, identifiers, message)
             except NotRepresentable as error:
@@ -112,7 +112,7 @@ class Reports:
         An argument that is a function is replaced by its result for the act's result.
         """
         with self._lock:
-            index = self._enter(replica, word, *arguments)
+            index = self._enter(replica, word, arguments)
             if before is not None:
                 before()
             result: Any = None if act is None else act()
@@ -195,7 +195,10 @@ class Reports:
         own[replica] = position + 1
         self._labels = label + 1
         self._updates[replica].append(label)
-        self._post(f"{self._prefixes[replica]}{fields}\n", f"ok {label}")
+        self._commands += 1
+        self._post_line(f"{self._prefixes[replica]}{fields}\n", f"ok {label}")
+        if self._monitor.unexpected is not None:
+            self._raise_failure()
 
     def _require_new(self, message: Hashable) -> None:
         if message is not None and message in self._messages:
@@ -261,7 +264,10 @@ class Reports:
         delivered[issuer] = position + 1
         if self._observed is not None:
             self._observed.deliver(replica, label)
-        self._post(f"{self._prefixes[replica]}got {label}\n", f"got {label}")
+        self._commands += 1
+        self._post_line(f"{self._prefixes[replica]}got {label}\n", f"got {label}")
+        if self._monitor.unexpected is not None:
+            self._raise_failure()
 
     def _merge(self, replica: int, messages: Union[Seen, Iterable[Hashable]]) -> None:
         if isinstance(messages, Seen):
