@@ -45,6 +45,7 @@ FOLLOWING = {
         "a_list_of_operations_is_one_message",
         "a_composition_needs_a_new_message",
         "clear_removes_what_the_replica_shows",
+        "clear_removes_what_won_by_its_stamp_and_not_what_came_last",
         "clear_of_another_kind_or_with_too_few_stamps_is_rejected",
         "an_error_names_the_call_and_what_was_looked_for",
         "an_act_that_returns_a_coroutine_is_rejected",
@@ -73,6 +74,10 @@ FOLLOWING = {
         "a_run_that_does_not_fail_again_is_flaky",
         "a_failed_run_is_run_twice_more_before_it_is_shrunk",
         "a_run_that_fails_in_another_way_is_flaky",
+    ],
+    "shrinking": [
+        "a_message_arrives_early_only_if_that_is_needed",
+        "a_state_is_merged_late_only_if_that_is_needed",
     ],
     "types": [
         "the_package_and_a_use_of_it_have_strict_types",

@@ -81,6 +81,15 @@ class Compositions(unittest.TestCase):
             "a remove 2 @4", "a remove 3 @5", "a remove 1 @6", "b remove 1 @7", "b remove 3 @8",
         ])
 
+    def test_clear_removes_what_won_by_its_stamp_and_not_what_came_last(self) -> None:
+        with Recorder("lwwset", ["a", "b"]) as recorder:
+            recorder.remove("b", "x", 1, message=1)
+            recorder.add("a", "x", 5)
+            recorder.deliver("a", 1)
+            recorder.clear("a", [6])
+            recorder.read("a", [])
+        self.assertIn("a remove 1 @6", lines(recorder))
+
     def test_clear_of_another_kind_or_with_too_few_stamps_is_rejected(self) -> None:
         recorder = Recorder("counter", ["a"])
         with self.assertRaisesRegex(NotRepresentable, "clear is not an operation of the kind counter: it is one of sets"):

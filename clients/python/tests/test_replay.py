@@ -249,9 +249,20 @@ class FlakyRuns(unittest.TestCase):
         self.assertTrue(Path(caught.exception.steps or "").is_file())
 
     def test_a_failed_run_is_run_twice_more_before_it_is_shrunk(self) -> None:
-        Flaky.left = 2
+        class FailsTwice(Counter):
+            made = 0
+
+            def __init__(self, name: str) -> None:
+                super().__init__(name)
+                FailsTwice.made += name == "a"
+
+            def read(self) -> int:
+                # The first replica is made to look for its methods.
+                return 1000 if FailsTwice.made in (2, 3) else self.number
+
         with self.assertRaises(FlakyRun):
-            check_random(Flaky, "counter", seeds=[0])
+            check_random(FailsTwice, "counter", seeds=[0])
+        self.assertEqual(FailsTwice.made, 4)
         Flaky.left = 1 << 30
         with self.assertRaises(NotLinearizable):
             check_random(Flaky, "counter")

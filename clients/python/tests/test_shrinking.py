@@ -113,6 +113,27 @@ class Strategies(unittest.TestCase):
         steps = [update("p", 1), read("a"), deliver("q", 1, 1), read("b", 1), deliver("r", 1, 2), read("c", 2)]
         self.assertEqual(smallest(steps, fails_with("abc", "pqr")), "abc")
 
+    def test_a_message_arrives_early_only_if_that_is_needed(self) -> None:
+        steps = [update("a", 1), update("b", 2), deliver("c", 2, 1), deliver("d", 1, 1)]
+        self.assertEqual(smallest(steps, fails_with("abcd")), "abdc")
+
+        def fails_out_of_order(steps: Steps) -> Optional[Tuple[str, ...]]:
+            letters = letters_of(steps)
+            return NO if {*"abcd"} <= {*letters} and letters.index("c") < letters.index("d") else None
+
+        self.assertEqual(smallest(steps, fails_out_of_order), "abcd")
+
+    def test_a_state_is_merged_late_only_if_that_is_needed(self) -> None:
+        steps = [update("a", 1), Step("snapshot", 0, 1, "b"), read("c"), Step("merge_snapshot", 1, 1, "d")]
+
+        def fails_with_a_state(steps: Steps) -> Optional[Tuple[str, ...]]:
+            actions = [it.action for it in steps]
+            has_state = "merge" in actions or {"snapshot", "merge_snapshot"} <= {*actions}
+            return NO if has_state and {*"ac"} <= {*letters_of(steps)} else None
+
+        self.assertEqual(smallest(steps, fails_with_a_state), "ac")
+        self.assertEqual(smallest(steps, fails_with("abcd")), "abcd")
+
     def test_two_steps_are_removed_together(self) -> None:
         self.assertEqual(smallest(updates("paq"), fails_with("a", "pq")), "a")
         self.assertEqual(smallest(updates("parbqs"), fails_with("ab", "pq", "rs")), "ab")

@@ -14,7 +14,7 @@ from .delivery_state import DeliveryState
 from .driver import Setting
 from .operations import operations_of
 from .plans import BOUNDARIES, SET_ELEMENTS
-from .profile import Profile, default_names, traits_of
+from .profile import Profile, Traits, default_names, traits_of
 from .program import Program
 from .random_failures import create_error
 from .runs import Failure, Run
@@ -209,14 +209,17 @@ def state_machine(
         act.__name__ = method or action
         setattr(Machine, act.__name__, rule(replica=replica, first=number, second=number)(act))
 
-    for method in traits.methods:
-        add_rule("update", method)
+    for action, method in _rules(traits):
+        add_rule(action, method)
+    return Machine
+
+
+def _rules(traits: Traits) -> List[Tuple[str, str]]:
+    """Returns the actions of a state machine, each with the method that it calls if it is an update."""
     profile = traits.profile
     events = {
         "deliver": not traits.merges, "merge": traits.merges, "duplicate": profile.duplicates,
         "snapshot": profile.late_states, "merge_snapshot": profile.late_states, "save": profile.restarts,
         "restart": profile.restarts, "read": True,
     }
-    for action in (it for it, is_used in events.items() if is_used):
-        add_rule(action, "")
-    return Machine
+    return [*(("update", it) for it in traits.methods), *((it, "") for it, is_used in events.items() if is_used)]
