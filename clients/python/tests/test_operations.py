@@ -25,12 +25,14 @@ class Compositions(unittest.TestCase):
             recorder.read("b", 3)
             recorder.increment("b", 256)
             recorder.read("b", 259)
-        self.assertEqual(lines(recorder)[:9], [*["a inc"] * 3, *["a dec"] * 2, "b got 0", "b got 1", "b got 2", "b read 3"])
+        self.assertEqual(lines(recorder)[:9], [
+            *["a inc"] * 3, *["a dec"] * 2, "b got 0", "b got 1", "b got 2", "b read 3",
+        ])
 
     def test_an_amount_that_cannot_be_counted_is_rejected_before_the_act(self) -> None:
         with Recorder("counter", ["a"]) as recorder:
             for by in (0, -1, 257, 1.5, "2"):
-                message = rf"increment\('a', {by!r}\): the amount .* since the monitor counts by one: expected .* 1 to 256"
+                message = rf"increment\('a', {by!r}\): the amount .* since the monitor counts by one: .* 1 to 256"
                 with self.subTest(by=by), self.assertRaisesRegex(NotRepresentable, message):
                     recorder.increment("a", by, act=self.fail)  # type: ignore[arg-type]
             recorder.read("a", 0)
@@ -92,7 +94,7 @@ class Compositions(unittest.TestCase):
 
     def test_clear_of_another_kind_or_with_too_few_stamps_is_rejected(self) -> None:
         recorder = Recorder("counter", ["a"])
-        with self.assertRaisesRegex(NotRepresentable, "clear is not an operation of the kind counter: it is one of sets"):
+        with self.assertRaisesRegex(NotRepresentable, "clear is not an operation of the kind counter: it"):
             recorder.clear("a")
         recorder.stop()
         recorder = Recorder("lwwset", ["a"])
@@ -133,7 +135,7 @@ class Errors(unittest.TestCase):
             lambda it: it.increment("a", act=act), lambda it: it.read("a", act), lambda it: it.read("a", act()),
         ):
             recorder = Recorder("counter", ["a"])
-            with self.assertRaisesRegex(NotRepresentable, r"(increment|read)\('a'.*\): .* a coroutine, which no one awaits"):
+            with self.assertRaisesRegex(NotRepresentable, r"(increment|read)\('a'.*\): .* a coroutine, which"):
                 call(recorder)
             recorder.stop()
 
@@ -147,7 +149,7 @@ class Errors(unittest.TestCase):
     def test_a_removal_with_wrong_identifiers_is_told_apart_from_a_lost_addition(self) -> None:
         for named, message in [
             ([2], r"it names the identifiers 2, and by the reports its replica had 1, 2: the replica lost an addition"),
-            ([1, 2, 3], r"it names the identifiers 1, 2, 3, and by the reports its replica had 1, 2: a delivery was not"),
+            ([1, 2, 3], r"it names the identifiers 1, 2, 3, and by the reports its replica had 1, 2: a delivery"),
             ([], r"it names the identifiers none, and by the reports its replica had 1, 2: the replica lost"),
         ]:
             recorder = Recorder("orset", ["a", "b"], window=1)
@@ -161,7 +163,7 @@ class Errors(unittest.TestCase):
     def test_bad_arguments_are_errors_in_words(self) -> None:
         options: Any
         for options, message in [
-            ({"replicas": 0}, "replicas=0: expected at least 1"), ({"replicas": []}, r"replicas=\[\]: expected at least"),
+            ({"replicas": 0}, "replicas=0: expected at least 1"), ({"replicas": []}, r"replicas=\[\]: expected"),
             ({"replicas": None}, "replicas=None, .* a whole number or a list"), ({"seeds": -1}, "seeds=-1: expected"),
             ({"operations": -1}, "operations=-1: expected at least 0"), ({"operations": "3"}, "operations='3'"),
             ({"replicas": True}, "replicas=True: expected at least 1"), ({"seeds": 1.5}, "a whole number or a list"),

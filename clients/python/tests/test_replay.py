@@ -210,7 +210,8 @@ class Messages(unittest.TestCase):
                 self.assertNotIn("import replay", source)
                 ran = run_source(source)
                 self.assertRegex(ran.stderr, r"FAILED \((failures|errors)=1\)")
-                repaired = source.replace(f"from {make.__module__} import {make.__name__}", f"from replicas import {right}")
+                imports = f"from {make.__module__} import {make.__name__}", f"from replicas import {right}"
+                repaired = source.replace(*imports)
                 self.assertEqual(run_source(repaired.replace(make.__name__, right)).returncode, 0)
 
     def test_the_regression_test_has_the_faults_of_the_network(self) -> None:

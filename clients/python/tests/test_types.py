@@ -19,7 +19,7 @@ def mypy(*paths: str) -> "subprocess.CompletedProcess[str]":
         return subprocess.run(words, cwd=TESTS.parent, env=environment, capture_output=True, text=True)
 
 
-@unittest.skipUnless(HAS_ALL, "mypy, hypothesis or pytest is not installed: apt-get install mypy python3-hypothesis python3-pytest")
+@unittest.skipUnless(HAS_ALL, "not installed: apt-get install mypy python3-hypothesis python3-pytest")
 class Types(unittest.TestCase):
     def test_the_package_and_a_use_of_it_have_strict_types(self) -> None:
         ran = mypy("yehatu", "tests/typed_use.py")

@@ -43,7 +43,9 @@ def main() -> List[int]:
     runs: Runs = check_random(Register, "register", seeds=[1, "2-2"], duplicates=True, weights={"write": 2})
     register = Register("a")
     with Recorder("register", ["a", "b"], nothing=None) as recorder:
-        sent: Sent = recorder.update("a", lambda it: write(it.value, it.stamp), act=lambda: register.write(1), message=1)
+        sent: Sent = recorder.update(
+            "a", lambda it: write(it.value, it.stamp), act=lambda: register.write(1), message=1
+        )
         recorder.deliver("b", 1)
         recorder.merge("b", recorder.seen("a"))
         recorder.read("b", sent.value)

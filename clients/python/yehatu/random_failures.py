@@ -30,7 +30,7 @@ def create_error(
     parts = [f"at work: {faults}"] if faults else []
     run = f"{summary}; " if stored is None else ""
     first = "" if stored is None else f"{summary}: "
-    parts += [f"{run}the history is {history}, and the steps for replay are {path}:\n"]
+    parts += [f"{run}the history is {history}, the steps are {path}:\n"]
     parts += [_indented(_header(small.text)), report.format_commands(small.replies, most=SHOWN_LINES)]
     if stored is None:
         expected = report.expected_read(explanation) if small.steps[-1].action == "read" else None

@@ -75,7 +75,7 @@ def check_random(
         delivery: `causal` if the transport delivers in causal order, or `any` if the type buffers messages itself.
         duplicates: Whether a message may arrive again.
         late_states: Whether a state may be merged later than it was taken. By default, a type that merges promises it.
-        restarts: Whether a replica restarts from what it saved. By default, a type with `save()` and `load(saved)` does.
+        restarts: Whether a replica restarts from what it saved. By default, one with `save()` and `load(saved)` does.
         weights: The relative frequency of each method, such as `{"remove": 3}`.
         failure: The file for the steps of a failure. By default it is a temporary one beside the history.
 

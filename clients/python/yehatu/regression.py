@@ -35,9 +35,9 @@ class _Source:
         """Returns the variable of a replica: its name, if it can be one."""
         name = self._names[replica]
         is_short = isinstance(name, str) and name.isidentifier() and not keyword.iskeyword(name)
-        is_free = name not in (self._make, "copy", "self", "unittest") and not str(name).startswith(("saved_", "state_"))
+        is_reserved = str(name).startswith(("saved_", "state_")) or name in (self._make, "copy", "self", "unittest")
         is_message = isinstance(name, str) and name[:1] == "m" and name[1:].isdigit()
-        return str(name) if is_short and is_free and not is_message else f"replica_{replica}"
+        return str(name) if is_short and not is_reserved and not is_message else f"replica_{replica}"
 
     def add(self, step: Step) -> None:
         """Adds the statements of a step."""

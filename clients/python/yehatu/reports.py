@@ -322,7 +322,8 @@ class Reports:
     def _describe_messages(self) -> str:
         shown = [repr(it) for it, _ in zip(self._messages, range(SHOWN_MESSAGES))]
         left_out = len(self._messages) - len(shown)
-        return f"known are {', '.join(shown)}{f' and {left_out} more' if left_out else ''}" if shown else "none is known"
+        rest = f" and {left_out} more" if left_out else ""
+        return f"known are {', '.join(shown)}{rest}" if shown else "none is known"
 
 
 def _clock_of(pair: Tuple[Any, Any]) -> int:

@@ -40,7 +40,8 @@ def _without_repetition(run: Run) -> Run:
 
 
 def _apply_strategies(failure: Failure, run: Run) -> Failure:
-    for strategy in (_remove_replica, _unite_replicas, _remove_range, _remove_update, _merge_at_once, _calm, _remove_pair):
+    removals = _remove_replica, _unite_replicas, _remove_range, _remove_update
+    for strategy in (*removals, _merge_at_once, _calm, _remove_pair):
         failure = _apply_strategy(failure, run, strategy)
     return failure
 

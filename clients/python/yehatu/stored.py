@@ -37,7 +37,8 @@ def load(path: str) -> Stored:
         try:
             values = json.load(file)
         except ValueError as error:
-            raise ValueError(f"{path} is not a stored failure: {error}; expected the JSON that check_random wrote") from None
+            expected = "expected the JSON that check_random wrote"
+            raise ValueError(f"{path} is not a stored failure: {error}; {expected}") from None
     missing = [it for it in KEYS if it not in values] if isinstance(values, dict) else list(KEYS)
     if missing:
         raise ValueError(f"{path} is not a stored failure: it lacks {', '.join(missing)}")
