@@ -23,7 +23,8 @@ os.environ.setdefault("RA_MONITOR", str(TOP / "ra_monitor"))
 import planted
 from convergence import NAMES, converges
 from replicas import CORRECT, Message, OrSet
-from yehatu import NotLinearizable, check_random
+from yehatu import check_random
+from yehatu.errors import ReportFailed
 
 RUNS, CORRECT_RUNS, OPERATIONS = 200, 20, 30
 
@@ -77,8 +78,9 @@ def by_random_runs(make, kind, runs=RUNS):
     """The run in which `check_random` fails, from 1, or None."""
     try:
         check_random(make, kind, replicas=NAMES, operations=OPERATIONS, seeds=runs)
-    except NotLinearizable as failure:
-        Path(failure.history).unlink()
+    except ReportFailed as failure:
+        for path in (failure.history, failure.steps):
+            Path(path).unlink()
         return int(str(failure).split("\nrun ")[1].split(",")[0])
     return None
 
