@@ -53,6 +53,9 @@ FOLLOWING = {
         "weights_change_how_often_a_method_is_called",
         "weights_of_unknown_methods_are_rejected",
         "amounts_are_tried_if_the_methods_take_them",
+        "a_stamp_of_an_or_set_is_rejected",
+        "identifiers_of_another_kind_are_rejected",
+        "a_message_without_a_stamp_is_named",
     ],
     "replay": [
         "a_seed_with_its_version_runs_the_same_plan",

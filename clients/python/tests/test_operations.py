@@ -15,6 +15,36 @@ def lines(recorder: Recorder) -> List[str]:
     return recorder.history().splitlines()[2:]
 
 
+class WithoutStamp(LwwSet):
+    """Returns messages without their stamps."""
+
+    def add(self, element: Any) -> Message:
+        return {name: it for name, it in super().add(element).items() if name != "stamp"}
+
+
+class Arguments(unittest.TestCase):
+    def test_a_stamp_of_an_or_set_is_rejected(self) -> None:
+        for call, named in (("add", "identifier"), ("remove", "identifiers")):
+            recorder = Recorder("orset", ["a"])
+            message = f"an OR-Set has no stamps, and 5 is one: pass `{named}=`, or nothing"
+            with self.subTest(call=call), self.assertRaisesRegex(NotRepresentable, message):
+                getattr(recorder, call)("a", "x", 5)
+            recorder.stop()
+
+    def test_identifiers_of_another_kind_are_rejected(self) -> None:
+        for call, named in (("add", "identifier"), ("remove", "identifiers")):
+            recorder = Recorder("lwwset", ["a"])
+            message = "the kind lwwset has no identifiers: got"
+            with self.subTest(call=call), self.assertRaisesRegex(NotRepresentable, message):
+                getattr(recorder, call)("a", "x", 5, **{named: [7]})
+            recorder.stop()
+
+    def test_a_message_without_a_stamp_is_named(self) -> None:
+        message = r"add\(.*\) returned a message without a stamp, .*: expected a key or an attribute `stamp`"
+        with self.assertRaisesRegex(NotRepresentable, message):
+            check_random(WithoutStamp, "lwwset")
+
+
 class Compositions(unittest.TestCase):
     def test_an_amount_is_reported_as_that_number_of_increments(self) -> None:
         with Recorder("counter", ["a", "b"]) as recorder:

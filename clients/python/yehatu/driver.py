@@ -255,15 +255,32 @@ def operation_of(kind: str, step: Step, message: Any) -> Operation:
     """Returns the operation of an update, with the stamp or the identifiers of its message."""
     if kind == "counter":
         return Operation(step.method)
-    stamp = _field_of(message, "stamp")
     if kind == "register":
-        return operations.write(step.arguments[0], stamp)
+        return operations.write(step.arguments[0], _stamp_of(step, message))
     if step.method == "insert_after":
         anchor, element = step.arguments
-        return operations.insert_after(anchor, element, stamp)
-    if step.method == "add":
-        return operations.add(step.arguments[0], stamp, _field_of(message, "identifier"))
-    return operations.remove(step.arguments[0], stamp, _field_of(message, "identifiers"))
+        return operations.insert_after(anchor, element, _stamp_of(step, message))
+    element = step.arguments[0]
+    if kind == "orset" and step.method == "add":
+        return operations.add(element, identifier=_field_of(message, "identifier"))
+    if kind == "orset":
+        return operations.remove(element, identifiers=_field_of(message, "identifiers"))
+    if kind == "rga":
+        return operations.remove(element)
+    update = operations.add if step.method == "add" else operations.remove
+    return update(element, _stamp_of(step, message))
+
+
+def _stamp_of(step: Step, message: Any) -> Any:
+    """Returns the stamp of an update's message, which has to have one."""
+    stamp = _field_of(message, "stamp")
+    if stamp is None:
+        call = f"{step.method}({', '.join(map(repr, step.arguments))})"
+        raise NotRepresentable(
+            f"{call} returned a message without a stamp, {message!r}: expected a key or an attribute `stamp` that has "
+            "the clock, or the clock and the replica's name"
+        )
+    return stamp
 
 
 def _field_of(message: Any, name: str) -> Any:

@@ -179,8 +179,13 @@ class Reports:
             self._require_new(message)
         formatter = self._formatters.get(word) or self._translator.formatter(word)
         if self._observed is None:
+            if identifiers is not None:
+                raise NotRepresentable(f"the kind {self._translator.kind} has no identifiers: got {identifiers!r}")
             self._issue_fields(replica, formatter(replica, value, anchor, stamp, identifiers), message)
             return
+        if stamp is not None:
+            named = "identifier" if word == "add" else "identifiers"
+            raise NotRepresentable(f"an OR-Set has no stamps, and {stamp!r} is one: pass `{named}=`, or nothing")
         numbers = self._identifier_numbers(replica, word, value, identifiers)
         fields = formatter(replica, value, anchor, stamp, numbers)
         self._observed.issue(replica, self._labels, (value, numbers, word == "add"))
