@@ -20,6 +20,8 @@ export class ReportFailed extends Error {
     this.operation = operation;
     this.reply = reply;
     this.history = history;
+    /** The file with the steps of a random run, which `replay` runs again. */
+    this.steps = undefined;
   }
 }
 
@@ -44,4 +46,9 @@ export class Refused extends ReportFailed {
 /** A replica of a random run threw an error, which is the `cause` of this one. */
 export class ReplicaRaised extends ReportFailed {
   name = "ReplicaRaised";
+}
+
+/** A random run failed, and the same steps did not fail in the same way again: the class is not deterministic. */
+export class FlakyRun extends ReportFailed {
+  name = "FlakyRun";
 }

@@ -1,10 +1,12 @@
 // Reports on a failed history, in the user's names.
-import { mkdtempSync, writeFileSync } from "node:fs";
+import { randomBytes } from "node:crypto";
+import { writeFileSync } from "node:fs";
 import { tmpdir } from "node:os";
 import { join } from "node:path";
 import { inspect } from "node:util";
 import { MonitorExited, NotLinearizable, Refused } from "./errors.js";
 import { explainViolation } from "./program.js";
+import { observedIdentifiers, parseIdentifiers } from "./shown.js";
 import { isOperation } from "./translation.js";
 
 // The largest number of a history's last lines in a message.
@@ -20,11 +22,6 @@ const MEANINGS = {
   "id-taken": "another addition used this identifier before",
 };
 const NOT_CAUSAL = "refused not-causal ";
-
-// The meaning of `query` for an OR-Set's removal, which names the identifiers that its replica has observed.
-const OTHER_IDENTIFIERS =
-  "it names other identifiers than its replica had observed of the element; if an addition replaces older ones, " +
-  "leave the identifiers out";
 
 /**
  * The commands of a failed history, described in the user's names. `messageKeys` has the key of each label's message,
@@ -58,26 +55,43 @@ export class FailureReport {
     return `${message}label ${label} (${this.#describeLine(this.#lineOf[label])})`;
   }
 
-  /** Returns a table of the commands from number `first` on: each with its reply, if any, and its description. */
-  formatCommands(replies = [], first = 0) {
+  /**
+   * Returns a table of the commands from number `first` on: each with its reply, if any, and its description. If there
+   * are more than `most`, and that is given, those in the middle are left out.
+   */
+  formatCommands(replies = [], { first = 0, most = Infinity } = {}) {
     const rowsOf = (line, number) => [
       ...(this.#notes.get(number) ?? []).map((note) => ["", "", note]),
       [line, replies[number] ?? "", this.describe(number)],
     ];
     const rows = this.commands.flatMap((line, number) => (number < first ? [] : rowsOf(line, number)));
+    if (rows.length > most) {
+      const leftOut = rows.length - most;
+      rows.splice(most >> 1, leftOut, ["..", "", `${leftOut} lines are left out here, and not in the file`]);
+    }
     const widths = [0, 1].map((column) => Math.max(0, ...rows.map((row) => row[column].length)));
     const padded = rows.map(([line, reply, text]) => [line.padEnd(widths[0]), reply.padEnd(widths[1]), text]);
     return padded.map((row) => `    ${row.filter((it) => it !== "").join("  ")}`).join("\n");
   }
 
+  /** Returns the program's explanation of a violation, or null if there is none. */
+  explain(text, reply, program) {
+    return reply.startsWith("no ") ? explainViolation(program, text) : null;
+  }
+
   /**
    * Describes the last command of the text and its reply. A violation is followed by the expected result and the
-   * changes of deliveries that would explain it, if the program can explain.
+   * changes of deliveries that would explain it, if there is an explanation.
    */
-  summarize(text, reply, program) {
+  summarize(reply, explanation) {
     const operation = this.describe(this.commands.length - 1);
-    const explanation = reply.startsWith("no ") ? explainViolation(program, text) : null;
     return `${operation}: ${this.describeReply(reply)}${this.#formatExplanation(explanation)}`;
+  }
+
+  /** Returns the expected result of the last command as `{ value }`, or null if it is unknown. */
+  expectedRead(explanation) {
+    const [, word, result] = explanation?.right?.split(" ") ?? [];
+    return word === "read" ? { value: this.#translator.resultOf(result) } : null;
   }
 
   #formatExplanation(explanation) {
@@ -105,9 +119,24 @@ export class FailureReport {
     }
     const cause = reply.split(" ").find((it) => it in MEANINGS);
     const verdict = reply.startsWith("no ") ? "not RA-linearizable" : "refused";
-    const isRemoval = this.commands.at(-1).includes(" remove ");
-    if (cause === "query" && isRemoval) return `${verdict}, ${OTHER_IDENTIFIERS}`;
+    const isRemoval = this.#translator.kind === "orset" && this.commands.at(-1).includes(" remove ");
+    if (cause === "query" && isRemoval) return `${verdict}, ${this.#compareIdentifiers()}`;
     return cause === undefined ? reply : `${verdict}, ${MEANINGS[cause]}`;
+  }
+
+  /** Compares the identifiers that the last command, a removal, names with those that its replica has. */
+  #compareIdentifiers() {
+    const [name, , element, field] = this.commands.at(-1).split(" ");
+    const named = parseIdentifiers(field.slice(1));
+    const observed = observedIdentifiers(this.commands.slice(0, -1), name, Number(element));
+    const describe = (numbers) =>
+      this.#translator.describeIdentifiers([...numbers].sort((one, other) => one - other));
+    const meaning = named.some((it) => !observed.has(it))
+      ? "a delivery was not reported, or the removal names what its replica never had"
+      : "the replica lost an addition that was delivered, or the removal names too few; if an addition replaces " +
+        "older ones, leave the identifiers out";
+    const comparison = `it names the identifiers ${describe(named)}, and by the reports its replica had`;
+    return `${comparison} ${describe(observed)}: ${meaning}`;
   }
 }
 
@@ -123,15 +152,17 @@ export function createError(report, text, reply, path, program) {
   }
   const saved = saveHistory(text, path);
   const operation = report.describe(last);
-  const shown = report.formatCommands([], Math.max(0, last + 1 - SHOWN_LINES));
+  const shown = report.formatCommands([], { first: Math.max(0, last + 1 - SHOWN_LINES) });
   const place = `line ${last + HEADER_LINES + 1} of ${saved}, reply "${reply}"`;
-  const message = `${report.summarize(text, reply, program)}\n${place}; the last lines:\n${shown}`;
+  const summary = report.summarize(reply, report.explain(text, reply, program));
+  const message = `${summary}\n${place}; the last lines:\n${shown}`;
   return new (reply.startsWith("no ") ? NotLinearizable : Refused)(message, operation, reply, saved);
 }
 
 /** Writes the history to this file, or to a new temporary file, and returns the path. */
 export function saveHistory(text, path) {
-  const saved = path ?? join(mkdtempSync(join(tmpdir(), "yehatu_")), "history.rah");
-  writeFileSync(saved, text);
+  const saved = path ?? join(tmpdir(), `yehatu_${randomBytes(6).toString("hex")}.rah`);
+  // A temporary file is a new one.
+  writeFileSync(saved, text, { flag: path === undefined ? "wx" : "w" });
   return saved;
 }

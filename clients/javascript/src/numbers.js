@@ -13,22 +13,32 @@ const RESERVED_NAMES = ["verdict", "join"];
 /** A map whose keys are anything; arrays are one key if they have the same JSON. */
 export class KeyMap {
   #things = new Map();
+  // For the JSON of each array, the array and its value.
   #arrays = new Map();
 
+  get size() {
+    return this.#things.size + this.#arrays.size;
+  }
+
   get(key) {
-    return Array.isArray(key) ? this.#arrays.get(JSON.stringify(key)) : this.#things.get(key);
+    return Array.isArray(key) ? this.#arrays.get(JSON.stringify(key))?.[1] : this.#things.get(key);
   }
 
   set(key, value) {
-    if (Array.isArray(key)) this.#arrays.set(JSON.stringify(key), value);
+    if (Array.isArray(key)) this.#arrays.set(JSON.stringify(key), [key, value]);
     else this.#things.set(key, value);
+  }
+
+  /** Yields each key with its value. */
+  *entries() {
+    yield* this.#things.entries();
+    yield* this.#arrays.values();
   }
 
   /** Returns a map with the same keys, each with the result of `copyValue` for its value. */
   copy(copyValue) {
     const copied = new KeyMap();
-    for (const [key, value] of this.#things) copied.#things.set(key, copyValue(value));
-    for (const [key, value] of this.#arrays) copied.#arrays.set(key, copyValue(value));
+    for (const [key, value] of this.entries()) copied.set(key, copyValue(value));
     return copied;
   }
 }
@@ -65,6 +75,7 @@ export class Clocks {
 
   /** Returns the number of this clock. */
   numberOf(clock) {
+    if (this.#offset === 0n && clock >= 1 && clock <= MAX_NUMBER && Number.isInteger(clock)) return clock;
     if (typeof clock !== "bigint" && !Number.isSafeInteger(clock)) {
       throw new NotRepresentable(
         `the clock ${inspect(clock)} is not a whole number: convert clocks to whole numbers in the same order`,
@@ -104,6 +115,9 @@ export class Replicas {
   #indexes = new KeyMap();
 
   constructor(replicas) {
+    if (typeof replicas?.[Symbol.iterator] !== "function" || typeof replicas === "string") {
+      throw new NotRepresentable(`the replicas are ${inspect(replicas)}: expected a list of their names`);
+    }
     this.keys = [...replicas];
     this.keys.forEach((it, index) => this.#indexes.set(it, index));
     const areDistinct = this.keys.every((it, index) => this.#indexes.get(it) === index);
@@ -142,6 +156,11 @@ export class Replicas {
     const index = this.#indexes.get(replica);
     if (index !== undefined) return index;
     throw new NotRepresentable(`unknown replica ${inspect(replica)}: expected one of ${inspect(this.keys)}`);
+  }
+
+  /** Returns the number of this replica, or undefined if there is none. */
+  findIndex(replica) {
+    return this.#indexes.get(replica);
   }
 
   /** Returns what the user calls the replica of this name. */

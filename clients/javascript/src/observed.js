@@ -17,6 +17,12 @@ export class ObservedIdentifiers {
     return [...(this.#elements[replica].get(element) ?? [])];
   }
 
+  /** Returns the elements that have an identifier at this replica. */
+  elementsOf(replica) {
+    const entries = [...this.#elements[replica].entries()];
+    return entries.filter(([, observed]) => observed.size > 0).map(([element]) => element);
+  }
+
   /** Records the effect of the update with this label, and applies it at the replica that issued it. */
   issue(replica, label, effect) {
     this.#effects.set(label, effect);

@@ -1,236 +1,299 @@
-// Random plans of what replicas do and which updates are delivered to them, determined by a seed.
+// Random plans of what replicas do and what the network does, determined by a seed.
+import { inspect } from "node:util";
+import { DeliveryState } from "./delivery_state.js";
+import { Network } from "./network.js";
+import { RandomNumbers } from "./random_numbers.js";
+import { makeStep } from "./steps.js";
 
+// The version of the planner. A seed means the same plan as long as this stays.
+const VERSION = 2;
+const SEED = /^(\d+)-(-?\d+)$/;
 // A set has few elements, so that updates of one element are concurrent.
 const SET_ELEMENTS = 3;
-const MAX_DISCONNECTION = 25;
-// The chance, at each step, that a state without new updates is merged.
+// The values around the bounds of the usual sizes of numbers. All are exact.
+export const BOUNDARIES = [
+  0, 1, 127, 128, 255, 256, 65_535, 65_536, 2 ** 31 - 1, 2 ** 31, 2 ** 32 - 1, 2 ** 32, 2 ** 53 - 1,
+];
+// The chance that a value is one of these.
+const BOUNDARY_CHANCE = 0.15;
+// The amounts of a counter with `increment(by)`, and the largest sum of all amounts of a run.
+export const AMOUNTS = [1, 1, 1, 2, 2, 127, 128, 255, 256];
+export const MAX_TOTAL = 300;
+// The chance of a run in which one replica counts beyond seven bits, and the number of its increments.
+const CLIMB_CHANCE = 0.06;
+const SHORTEST_CLIMB = 200;
+const LONGEST_CLIMB = 260;
+// The chances, at each step, of events of the profile.
 const OLD_STATE_CHANCE = 0.1;
-// The chance, at each step, that a further replica joins.
 const JOIN_CHANCE = 0.15;
-// The actions in which a replica receives the state of another one.
-export const COPYING = ["merge", "join"];
+const BURST_CHANCE = 0.05;
+const DUPLICATE_CHANCE = 0.15;
+const SNAPSHOT_CHANCE = 0.1;
+const LATE_CHANCE = 0.12;
+const SAVE_CHANCE = 0.05;
+const RESTART_CHANCE = 0.06;
+const LONGEST_BURST = 8;
 
-/** Random numbers for a seed, which may be any text (mulberry32: small, and good enough to choose steps). */
-class Random {
-  #state = 2_166_136_261;
-
-  constructor(seed) {
-    for (const letter of seed) this.#state = Math.imul(this.#state ^ letter.codePointAt(0), 16_777_619);
+/** Returns the number of a seed, such as 17 or "2-17". Throws `RangeError` if it is of another version. */
+export function parseSeed(seed) {
+  if (Number.isSafeInteger(seed)) return seed;
+  const [, version, number] = (typeof seed === "string" && SEED.exec(seed)) || [];
+  if (version === undefined) {
+    throw new RangeError(
+      `the seed ${inspect(seed)} is unknown: expected a whole number, or a text such as '${VERSION}-17'`,
+    );
   }
-
-  /** Returns a number from 0 to 1, without 1. */
-  chance() {
-    this.#state = (this.#state + 0x6d2b79f5) | 0;
-    let mixed = Math.imul(this.#state ^ (this.#state >>> 15), 1 | this.#state);
-    mixed = (mixed + Math.imul(mixed ^ (mixed >>> 7), 61 | mixed)) ^ mixed;
-    return ((mixed ^ (mixed >>> 14)) >>> 0) / 4_294_967_296;
+  if (Number(version) !== VERSION) {
+    throw new RangeError(
+      `the seed ${inspect(seed)} is of version ${version} of the planner, and this is version ${VERSION}, which ` +
+        "plans another run for it: run the stored failure again with replay(makeReplica, PATH)",
+    );
   }
-
-  /** Returns a whole number from the first to the last. */
-  number(first, last) {
-    return first + Math.floor(this.chance() * (last - first + 1));
-  }
-
-  /** Returns one item of the list. */
-  choice(list) {
-    return list[this.number(0, list.length - 1)];
-  }
+  return Number(number);
 }
 
-/**
- * The updates that were delivered to each replica, those that each update sees, and the visible list elements.
- *
- * Deliveries are causal, so the updates of one replica are delivered to another in their order, and a count represents
- * them.
- */
-export class DeliveryState {
+/** Returns the seed with the version of the planner. */
+export const formatSeed = (seed) => `${VERSION}-${seed}`;
+
+/** The maker of one plan. If replicas fork, some of them are initial and some of the others join. */
+export class Planner {
   #kind;
-  // For each replica, how many updates of each other one were delivered to it.
-  #delivered;
-  #issued;
-  // For each update its replica, its position among that replica's updates, and the counts of those that it sees.
-  #origins = new Map();
-
-  constructor(kind, replicas) {
-    this.#kind = kind;
-    this.#delivered = Array.from({ length: replicas }, () => Array(replicas).fill(0));
-    this.#issued = Array.from({ length: replicas }, () => []);
-    this.visible = Array.from({ length: replicas }, () => []);
-  }
-
-  /** Returns whether the replica shows the element that a list's update names. */
-  canUpdate({ replica, arguments: [first] }) {
-    return this.#kind !== "rga" || first === null || this.visible[replica].includes(first);
-  }
-
-  /** Records that the replica of this step issues its update. */
-  update(step) {
-    const issued = this.#issued[step.replica];
-    const seen = [...this.#delivered[step.replica]];
-    this.#origins.set(step.update, { issuer: step.replica, position: issued.length, seen });
-    issued.push(step);
-    this.deliver(step.replica, step.update);
-  }
-
-  /** Returns whether all that the update sees, and not the update itself, was delivered to the replica. */
-  canDeliver(replica, update) {
-    const origin = this.#origins.get(update);
-    if (origin === undefined) return false;
-    const delivered = this.#delivered[replica];
-    return delivered[origin.issuer] === origin.position && origin.seen.every((it, at) => it <= delivered[at]);
-  }
-
-  /** Returns whether the sender has an update that the replica lacks. */
-  isBehind(replica, sender) {
-    return this.#delivered[replica].some((own, at) => own < this.#delivered[sender][at]);
-  }
-
-  /** Returns the updates of these senders that can be delivered to the replica. */
-  deliverable(replica, senders) {
-    const following = senders.map((it) => this.#issued[it][this.#delivered[replica][it]]);
-    const updates = following.filter((it) => it !== undefined).map((it) => it.update);
-    return updates.filter((it) => this.canDeliver(replica, it));
-  }
-
-  /** Records that the update is applied at the replica. */
-  deliver(replica, update) {
-    const { issuer, position } = this.#origins.get(update);
-    const step = this.#issued[issuer][position];
-    const [first, element] = step.arguments;
-    this.#delivered[replica][issuer] = position + 1;
-    if (step.method === "insertAfter") this.visible[replica].push(element);
-    if (step.method === "remove") this.visible[replica] = this.visible[replica].filter((it) => it !== first);
-  }
-
-  /** Records that the replica, which is new, joins with a copy of the source's state. */
-  join(replica, source) {
-    this.#delivered[replica] = [...this.#delivered[source]];
-    this.visible[replica] = [...this.visible[source]];
-  }
-
-  /** Records that the replica merges the state of the sender. */
-  merge(replica, sender) {
-    const counts = this.#delivered[sender];
-    const missing = this.#issued.flatMap((issued, at) => issued.slice(this.#delivered[replica][at], counts[at]));
-    // Updates are numbered in the order in which they were issued, so this order is causal.
-    const updates = missing.map((it) => it.update).sort((one, other) => one - other);
-    for (const it of updates) this.deliver(replica, it);
-  }
-}
-
-/**
- * Returns the steps of a plan: `{ action, replica, update, method, arguments }`. The action is `update`, `deliver`,
- * `merge`, `read` or `join`. The `update` of a merge and of a join is the replica whose state is copied. With `join`,
- * some replicas are initial and some of the others join.
- */
-export function plan(kind, replicas, operations, seed, merges, join = false) {
-  return new Planner(kind, replicas, operations, seed, merges, join).plan();
-}
-
-/** The maker of one plan. */
-class Planner {
-  #kind;
+  #operations;
   #remaining;
-  #merges;
+  #traits;
   #random;
   #replicas;
   #present;
+  #network;
   #state;
   #steps = [];
   #updates = 0;
-  #disconnectedUntil;
+  #total = 0;
+  // The states that were taken early: for each its replica, and the counts of the updates in it.
+  #states = [];
+  #reordering;
+  #weights;
+  #boundaries;
+  #elements;
+  #used = new Set();
+  #smallest = 1;
 
-  constructor(kind, replicas, operations, seed, merges, join) {
+  constructor(kind, replicas, operations, seed, traits) {
     this.#kind = kind;
+    this.#operations = operations;
     this.#remaining = operations;
-    this.#merges = merges;
-    this.#random = new Random(`${kind} ${replicas} ${operations} ${seed}`);
+    this.#traits = traits;
     this.#replicas = replicas;
-    const initial = join ? this.#random.number(1, replicas) : replicas;
+    const random = new RandomNumbers(`${VERSION} ${kind} ${replicas} ${operations} ${seed}`);
+    this.#random = random;
+    const initial = traits.forks ? random.number(1, replicas) : replicas;
     this.#present = Array.from({ length: initial }, (_, replica) => replica);
+    this.#network = new Network(random, replicas, operations);
     this.#state = new DeliveryState(kind, replicas);
-    this.#disconnectedUntil = Array(replicas).fill(0);
+    this.#reordering = traits.profile.delivery === "any" ? random.uniform(0.2, 0.9) : 0;
+    this.#weights = traits.methods.map((it) => traits.weights[it]);
+    this.#boundaries = random.sample(BOUNDARIES, BOUNDARIES.length);
+    this.#elements = this.#chooseElements();
   }
 
   /** Returns operations, deliveries and reads. Most plans end with all pending deliveries; all end with reads. */
   plan() {
-    const reads = 0.1 + 0.2 * this.#random.chance();
-    const deliveries = 0.3 + 0.3 * this.#random.chance();
+    const reads = this.#random.uniform(0.1, 0.3);
+    const deliveries = this.#random.uniform(0.3, 0.6);
+    if (this.#kind === "counter" && this.#operations >= 10 && this.#random.chance() < CLIMB_CHANCE) this.#climb();
     while (this.#remaining > 0) {
       const chance = this.#random.chance();
-      if (chance < reads) this.#steps.push({ action: "read", replica: this.#random.choice(this.#present) });
-      else if (chance >= reads + deliveries || !this.#deliver()) this.#update();
-      if (this.#present.length < this.#replicas && this.#random.chance() < JOIN_CHANCE) this.#join();
-      if (this.#merges && this.#random.chance() < OLD_STATE_CHANCE) this.#mergeOldState();
-      if (this.#random.chance() < 0.03) {
-        const replica = this.#random.choice(this.#present);
-        this.#disconnectedUntil[replica] = this.#steps.length + this.#random.number(5, MAX_DISCONNECTION);
-      }
+      if (chance < reads) this.#add("read", this.#random.choice(this.#present));
+      else if (chance >= reads + deliveries || !this.#deliver()) this.#update(this.#random.choice(this.#present));
+      this.#network.advance(this.#steps.length, this.#present);
+      this.#planEvents();
     }
     if (this.#random.chance() < 0.8) {
-      this.#disconnectedUntil.fill(0);
+      this.#network.recover();
       while (this.#deliver());
     }
-    return [...this.#steps, ...this.#present.map((replica) => ({ action: "read", replica }))];
+    for (const it of this.#present) this.#add("read", it);
+    return this.#steps;
   }
 
-  /** Adds a delivery between two connected replicas, in any causal order. Returns false if there is none. */
+  #add(...fields) {
+    this.#steps.push(makeStep(...fields));
+  }
+
+  /** Adds what the profile allows beside operations, deliveries and reads. */
+  #planEvents() {
+    const { profile, merges } = this.#traits;
+    const occurs = (chance) => this.#random.chance() < chance;
+    if (this.#present.length < this.#replicas && occurs(JOIN_CHANCE)) this.#join();
+    if (occurs(BURST_CHANCE)) this.#burst();
+    if (merges && occurs(OLD_STATE_CHANCE)) this.#mergeOldState();
+    if (profile.duplicates && occurs(DUPLICATE_CHANCE)) this.#duplicate();
+    if (profile.lateStates) this.#useLateStates();
+    if (profile.restarts) this.#restart();
+  }
+
+  // Deliveries.
+
+  /** Adds a delivery between two connected replicas. Returns false if there is none. */
   #deliver() {
-    const connected = this.#present.filter((it) => this.#disconnectedUntil[it] <= this.#steps.length);
-    const ready = this.#merges ? this.#readyMerges(connected) : this.#readyDeliveries(connected);
+    if (this.#traits.merges) return this.#deliverState();
+    const canReorder = this.#reordering > 0;
+    let ready = this.#arriving(canReorder && this.#random.chance() < this.#reordering);
+    if (ready.length === 0 && canReorder) ready = this.#arriving(true);
     if (ready.length === 0) return false;
-    const step = this.#random.choice(ready);
-    this.#state[step.action](step.replica, step.update);
-    this.#steps.push(step);
+    const [replica, update] = this.#random.choice(ready);
+    if (canReorder) this.#state.arrive(replica, update);
+    else this.#state.deliver(replica, update);
+    this.#add("deliver", replica, update);
     return true;
   }
 
-  #readyDeliveries(connected) {
-    return connected.flatMap((replica) =>
-      this.#state.deliverable(replica, connected).map((update) => ({ action: "deliver", replica, update })),
+  /** Returns the messages that can arrive, each with its receiver: in causal order or in any. */
+  #arriving(isInAnyOrder) {
+    return this.#present.flatMap((replica) =>
+      this.#present.flatMap((sender) => this.#arrivingFrom(sender, replica, isInAnyOrder)),
     );
   }
 
-  #readyMerges(connected) {
-    return connected.flatMap((replica) =>
-      connected
-        .filter((it) => this.#state.isBehind(replica, it))
-        .map((update) => ({ action: "merge", replica, update })),
+  #arrivingFrom(sender, replica, isInAnyOrder) {
+    const { issued, delivered, waiting } = this.#state;
+    const first = delivered[replica][sender];
+    if (sender === replica || first === issued[sender].length) return [];
+    if (!this.#network.areConnected(replica, sender)) return [];
+    const found = [];
+    for (const { number } of issued[sender].slice(first, isInAnyOrder ? undefined : first + 1)) {
+      if (!this.#network.isDue(number, replica, this.#steps.length) || waiting[replica].includes(number)) continue;
+      if (isInAnyOrder || this.#state.canDeliver(replica, number)) found.push([replica, number]);
+    }
+    return found;
+  }
+
+  #deliverState() {
+    const ready = this.#pairs((replica, sender) =>
+      this.#state.isBehind(replica, sender) && this.#network.areConnected(replica, sender),
+    );
+    if (ready.length === 0) return false;
+    const [replica, sender] = this.#random.choice(ready);
+    this.#state.merge(replica, this.#state.counts(sender));
+    this.#add("merge", replica, sender);
+    return true;
+  }
+
+  /** Returns the pairs of two replicas that are present for which this holds. */
+  #pairs(holds) {
+    return this.#present.flatMap((replica) =>
+      this.#present.filter((it) => it !== replica && holds(replica, it)).map((sender) => [replica, sender]),
     );
   }
 
   #mergeOldState() {
-    const merges = this.#present.flatMap((replica) =>
-      this.#present.map((update) => ({ action: "merge", replica, update })),
-    );
-    const old = merges.filter((it) => it.replica !== it.update && !this.#state.isBehind(it.replica, it.update));
-    if (old.length > 0) this.#steps.push(this.#random.choice(old));
+    const old = this.#pairs((replica, sender) => !this.#state.isBehind(replica, sender));
+    if (old.length > 0) this.#add("merge", ...this.#random.choice(old));
   }
+
+  // Events of the profile.
 
   #join() {
-    const update = this.#random.choice(this.#present);
-    const replica = this.#present.push(this.#present.length) - 1;
-    this.#state.join(replica, update);
-    this.#steps.push({ action: "join", replica, update });
+    const source = this.#random.choice(this.#present);
+    const joining = this.#present.push(this.#present.length) - 1;
+    this.#state.join(joining, source);
+    this.#add("join", joining, source);
   }
 
-  #update() {
-    this.#remaining -= 1;
-    this.#updates += 1;
+  #burst() {
+    for (let left = this.#random.number(2, LONGEST_BURST); left > 0 && this.#deliver(); left -= 1);
+  }
+
+  #duplicate() {
     const replica = this.#random.choice(this.#present);
-    const [method, ...parameters] = this.#chooseOperation(replica);
-    const step = { action: "update", replica, update: this.#updates, method, arguments: parameters };
+    const repeatable = this.#state.repeatable(replica);
+    if (repeatable.length > 0) this.#add("duplicate", replica, this.#random.choice(repeatable));
+  }
+
+  /** Takes a state for later, or merges one of those that were taken. */
+  #useLateStates() {
+    if (this.#random.chance() < SNAPSHOT_CHANCE) {
+      const sender = this.#random.choice(this.#present);
+      this.#states.push({ sender, counts: this.#state.counts(sender) });
+      this.#add("snapshot", sender, this.#states.length);
+    }
+    if (this.#states.length === 0 || this.#random.chance() >= LATE_CHANCE) return;
+    const number = this.#random.number(1, this.#states.length);
+    const replica = this.#random.choice(this.#present);
+    const { sender, counts } = this.#states[number - 1];
+    if (replica === sender) return;
+    this.#state.merge(replica, counts);
+    this.#add("merge_snapshot", replica, number);
+  }
+
+  /** Saves the state of a replica, or restarts one. */
+  #restart() {
+    const chance = this.#random.chance();
+    if (chance < SAVE_CHANCE) this.#add("save", this.#random.choice(this.#present));
+    else if (chance < SAVE_CHANCE + RESTART_CHANCE) this.#add("restart", this.#random.choice(this.#present));
+  }
+
+  // Operations.
+
+  /** Lets one replica count in one direction, so that the value needs more than seven bits. */
+  #climb() {
+    const replica = this.#random.choice(this.#present);
+    const method = this.#chooseMethod();
+    for (let left = this.#random.number(SHORTEST_CLIMB, LONGEST_CLIMB); left > 0; left -= 1) {
+      this.#issue(replica, method, this.#traits.amounts ? [1] : []);
+      this.#total += 1;
+    }
+    this.#add("read", replica);
+  }
+
+  #update(replica) {
+    this.#remaining -= 1;
+    this.#issue(replica, ...this.#chooseOperation(replica));
+  }
+
+  #issue(replica, method, parameters) {
+    this.#updates += 1;
+    const step = makeStep("update", replica, this.#updates, method, parameters);
     this.#state.update(step);
+    this.#network.send(this.#updates, this.#steps.length);
     this.#steps.push(step);
   }
 
+  #chooseMethod() {
+    return this.#random.weightedChoice(this.#traits.methods, this.#weights);
+  }
+
   #chooseOperation(replica) {
-    const random = this.#random;
-    if (this.#kind === "counter") return [random.choice(["increment", "decrement"])];
-    if (this.#kind === "register") return ["write", this.#updates];
-    if (this.#kind !== "rga") return [random.choice(["add", "add", "remove"]), random.number(1, SET_ELEMENTS)];
+    const method = this.#chooseMethod();
+    if (this.#kind === "counter") return [method, this.#traits.amounts ? [this.#chooseAmount()] : []];
+    if (this.#kind === "register") return [method, [this.#newValue()]];
+    if (this.#kind !== "rga") return [method, [this.#random.choice(this.#elements)]];
     const visible = this.#state.visible[replica];
-    if (visible.length > 0 && random.chance() < 0.25) return ["remove", random.choice(visible)];
-    return ["insertAfter", random.choice([null, ...visible]), this.#updates];
+    if (method === "remove" && visible.length > 0) return [method, [this.#random.choice(visible)]];
+    return ["insertAfter", [this.#random.choice([null, ...visible]), this.#newValue()]];
+  }
+
+  #chooseAmount() {
+    const amount = this.#random.choice(AMOUNTS.filter((it) => it === 1 || this.#total + it <= MAX_TOTAL));
+    this.#total += amount;
+    return amount;
+  }
+
+  /** Returns a value that the plan did not use before: a small one, or one of the boundaries. */
+  #newValue() {
+    const isBoundary = this.#boundaries.length > 0 && this.#random.chance() < BOUNDARY_CHANCE;
+    let value = isBoundary ? this.#boundaries.at(-1) : this.#smallest;
+    while (this.#used.has(value)) {
+      this.#smallest += 1;
+      value = this.#smallest;
+    }
+    this.#used.add(value);
+    this.#boundaries = this.#boundaries.filter((it) => it !== value);
+    return value;
+  }
+
+  #chooseElements() {
+    if (this.#random.chance() < BOUNDARY_CHANCE) return this.#random.sample(BOUNDARIES, SET_ELEMENTS);
+    return Array.from({ length: SET_ELEMENTS }, (_, number) => number + 1);
   }
 }

@@ -1,5 +1,5 @@
 // The search for the program, and its runs on whole histories.
-import { spawnSync } from "node:child_process";
+import { spawn, spawnSync } from "node:child_process";
 import { accessSync, constants, realpathSync, statSync } from "node:fs";
 import { delimiter, join } from "node:path";
 import { fileURLToPath } from "node:url";
@@ -53,6 +53,54 @@ export function checkText(program, text) {
     throw new MonitorExited(describeExit(program, ran.status ?? ran.signal, ran.stderr, text));
   }
   return { replies: ran.stdout.split("\n").slice(0, -1), status: ran.status };
+}
+
+/** The program on a whole history, which it checks while the caller does other things. */
+export class Check {
+  #program;
+  #text;
+  #process;
+  #stdout = "";
+  #stderr = "";
+  #end;
+
+  constructor(program, text) {
+    this.#program = program;
+    this.#text = text;
+    this.#process = spawn(program, ["check"]);
+    this.#end = new Promise((resolve) => this.#listen(resolve));
+    this.#process.stdin?.end(text);
+  }
+
+  #listen(resolve) {
+    const { stdin, stdout, stderr } = this.#process;
+    // A write error means that the program has exited, which is handled when the process closes.
+    stdin?.on("error", () => {});
+    stdout?.setEncoding("latin1").on("data", (chunk) => {
+      this.#stdout += chunk;
+    });
+    stderr?.setEncoding("utf8").on("data", (chunk) => {
+      this.#stderr += chunk;
+    });
+    this.#process.on("error", (error) => resolve({ error }));
+    this.#process.on("close", (code, signal) => resolve({ status: code ?? signal }));
+  }
+
+  /** Waits for the program. Returns the replies, one for each command and the `end` line, and the exit status. */
+  async wait() {
+    const { error, status } = await this.#end;
+    if (error) throw new MonitorExited(`${this.#program} could not be started: ${error.message}`);
+    if (!COMPLETE.includes(status)) {
+      throw new MonitorExited(describeExit(this.#program, status, this.#stderr, this.#text));
+    }
+    return { replies: this.#stdout.split("\n").slice(0, -1), status };
+  }
+
+  /** Kills the program. */
+  async stop() {
+    this.#process.kill("SIGKILL");
+    await this.#end;
+  }
 }
 
 /** Returns the explanation of a violation as a JSON object, or null if there is none. */

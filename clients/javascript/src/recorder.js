@@ -1,20 +1,19 @@
 // Reports what replicas do, in the user's own names.
 import { inspect } from "node:util";
 import { NotRepresentable } from "./errors.js";
-import { FailureReport, createError } from "./failure_report.js";
 import { Monitor } from "./monitor.js";
-import { KeyMap } from "./numbers.js";
-import { ObservedIdentifiers } from "./observed.js";
 import * as operations from "./operations.js";
+import { Reports } from "./reports.js";
 import { Translator } from "./translation.js";
+import * as unclosed from "./unclosed.js";
 
-/** The updates that had been delivered to a replica at one moment, as a count for each replica. */
-class Seen {
-  constructor(replica, counts) {
-    this.replica = replica;
-    this.counts = counts;
-  }
-}
+// The largest amount of one `increment` with `by`: the text counts by one.
+const MAX_AMOUNT = 256;
+const COUNTING = { increment: "inc", decrement: "dec" };
+const NONE = {};
+const DONE = Promise.resolve(undefined);
+// The folder of this module, whose lines of a stack are not those of the user.
+const OWN_FOLDER = new URL(".", import.meta.url).href;
 
 /**
  * A reporter for replicas with any names, given in the order in which the type breaks ties, lowest first.
@@ -23,55 +22,51 @@ class Seen {
  * asynchronous. What is known only after the act (an operation, a message's key, a stamp, a value that is read) may be
  * a function, which is called with the result of the act. The first report that fails rejects with `NotLinearizable`
  * or `Refused` as soon as its reply has arrived, and so does each later call. With a `window` of 1 the call itself
- * rejects.
+ * rejects. The history is then written to the file `history`. A `monitor` receives the lines instead of a program.
+ *
+ * A recorder that is neither closed nor stopped warns, and lets the process end with status 3, since its last reports
+ * were not checked. With `mustClose: false` it does neither.
  */
 export class Recorder {
   #translator;
   #monitor;
-  #path;
-  #labels = 0;
-  #commands = 0;
-  // Lines that a failure report prints before the command of a number, which say whose state is merged.
-  #notes = new Map();
-  // For each replica, how many updates of each other one were delivered to it.
-  #delivered;
-  // For each replica, the labels of its updates.
-  #updates;
-  // The update of each message: its label, its replica, and its position among that replica's updates.
-  #messages = new KeyMap();
-  // The key of each label's message.
-  #messageKeys = new Map();
-  #observed;
-  #failure = null;
+  #reports;
+  #isCounter;
+  #openKey;
   #last;
 
-  constructor(kind, replicas, { program, window, history, nothing, monitor } = {}) {
+  constructor(kind, replicas, { program, window, history, nothing, monitor, mustClose = true } = {}) {
     this.#translator = new Translator(kind, replicas, nothing);
-    const { names } = this.#translator.replicas;
-    this.#monitor = monitor ?? new Monitor(kind, names, { program, window });
-    this.#path = history;
-    this.#delivered = names.map(() => names.map(() => 0));
-    this.#updates = names.map(() => []);
-    this.#observed = kind === "orset" ? new ObservedIdentifiers(names.length, () => new KeyMap()) : null;
+    this.#monitor = monitor ?? new Monitor(kind, this.#translator.replicas.names, { program, window });
+    this.#reports = new Reports(this.#translator, this.#monitor, history);
+    this.#isCounter = kind === "counter";
+    if (!mustClose) return;
+    const description = `the Recorder(${inspect(kind)}, ..) that was created at ${placeOf(new Error().stack)}`;
+    this.#openKey = unclosed.register(this, description);
   }
 
-  /** Reports an update, and returns the result of the act. `message` is the key that its deliveries name. */
-  update(replica, operation, { act, message } = {}) {
-    return this.#step(replica, act, (index, result) =>
-      this.#update(index, evaluate(operation, result), evaluate(message, result)),
+  /**
+   * Reports an update, and returns the result of the act. `message` is the key that its deliveries name. A list of
+   * operations is a composition: it is reported as these operations in their order, with one message.
+   */
+  update(replica, operation, { act, message } = NONE) {
+    return this.#step("update", replica, [operation], act, (index, result) =>
+      this.#reports.update(index, evaluate(operation, result), evaluate(message, result)),
     );
   }
 
   /** Reports that the replica applies the message of this key. A repeated delivery runs the act alone. */
-  deliver(replica, message, { act } = {}) {
-    return this.#step(replica, act, (index, result) =>
-      this.#deliver(index, this.#findMessage(evaluate(message, result))),
+  deliver(replica, message, { act } = NONE) {
+    return this.#step("deliver", replica, [message], act, (index, result) =>
+      this.#reports.deliver(index, evaluate(message, result)),
     );
   }
 
   /** Reports that the replica merges a state, given by its messages or by what another replica had `seen`. */
-  merge(replica, messages, { act } = {}) {
-    return this.#step(replica, act, (index, result) => this.#merge(index, evaluate(messages, result)));
+  merge(replica, messages, { act } = NONE) {
+    return this.#step("merge", replica, [messages], act, (index, result) =>
+      this.#reports.merge(index, evaluate(messages, result)),
+    );
   }
 
   /**
@@ -79,55 +74,91 @@ export class Recorder {
    * the order of ties. A join that is impossible, because the name exists or there are 64 replicas, rejects with
    * `NotRepresentable` before the act, and the history continues without it.
    */
-  join(replica, source, { act } = {}) {
+  join(replica, source, { act } = NONE) {
     const check = () => this.#translator.replicas.checkJoin(replica);
-    return this.#step(source, act, (index) => this.#join(replica, index), check);
+    return this.#step("join", source, [], act, (index) => this.#reports.join(replica, index), check);
   }
 
   /** Reports a read of this value, or of the value that this function returns. Returns the value. */
   read(replica, value) {
     const act = typeof value === "function" ? value : () => value;
-    return this.#step(replica, act, (index, result) => this.#read(index, result));
+    return this.#step("read", replica, [value], act, (index, result) => this.#reports.read(index, result));
   }
 
   /** Returns the updates that were delivered to the replica so far, for a `merge` of its current state. */
   seen(replica) {
-    return new Seen(replica, [...this.#delivered[this.#translator.replicas.indexOf(replica)]]);
+    return this.#reports.seen(replica);
   }
 
-  /** Reports a counter's increment by one. */
+  /** Reports a counter's increment by one, or by an amount from 1 to 256, as that number of increments. */
   increment(replica, options) {
-    return this.update(replica, operations.increment(), options);
+    return this.#count("increment", replica, options);
   }
 
-  /** Reports a counter's decrement by one. */
+  /** Reports a counter's decrement by one, or by an amount from 1 to 256, as that number of decrements. */
   decrement(replica, options) {
-    return this.update(replica, operations.decrement(), options);
+    return this.#count("decrement", replica, options);
+  }
+
+  #count(word, replica, options = NONE) {
+    const { by = 1, act, message } = options;
+    if (by === 1 && this.#isCounter) {
+      return this.#step(word, replica, [], act, (index, result) =>
+        this.#reports.issueFields(index, COUNTING[word], evaluate(message, result)),
+      );
+    }
+    if (!Number.isInteger(by) || by < 1 || by > MAX_AMOUNT) {
+      return Promise.reject(new NotRepresentable(
+        `${describeCall(word, replica, [{ by }])}: the amount ${inspect(by)} cannot be reported, since the monitor ` +
+          `counts by one: expected a whole number from 1 to ${MAX_AMOUNT}; report a larger amount in several calls`,
+      ));
+    }
+    const repeated = Array(by).fill(operations[word]());
+    return this.#step(word, replica, by === 1 ? [] : [{ by }], act, (index, result) =>
+      this.#reports.update(index, repeated, evaluate(message, result)),
+    );
   }
 
   /** Reports a register's write of this value. */
-  write(replica, value, stamp, options) {
-    return this.update(replica, (result) => operations.write(value, evaluate(stamp, result)), options);
+  write(replica, value, stamp, { act, message } = NONE) {
+    return this.#step("write", replica, [value, stamp], act, (index, result) =>
+      this.#reports.issue(index, operations.write(value, evaluate(stamp, result)), evaluate(message, result)),
+    );
   }
 
   /** Reports a set's addition, with the `stamp` of an LWW set or the `identifier` of an OR-Set. */
-  add(replica, element, { stamp, identifier, ...options } = {}) {
-    const create = (result) =>
-      operations.add(element, { stamp: evaluate(stamp, result), identifier: evaluate(identifier, result) });
-    return this.update(replica, create, options);
+  add(replica, element, { stamp, identifier, act, message } = NONE) {
+    return this.#step("add", replica, [element, ...named("stamp", stamp)], act, (index, result) => {
+      const marks = { stamp: evaluate(stamp, result), identifier: evaluate(identifier, result) };
+      return this.#reports.issue(index, operations.add(element, marks), evaluate(message, result));
+    });
   }
 
   /** Reports a removal, with the `stamp` of an LWW set or the `identifiers` of an OR-Set. */
-  remove(replica, element, { stamp, identifiers, ...options } = {}) {
-    const create = (result) =>
-      operations.remove(element, { stamp: evaluate(stamp, result), identifiers: evaluate(identifiers, result) });
-    return this.update(replica, create, options);
+  remove(replica, element, { stamp, identifiers, act, message } = NONE) {
+    return this.#step("remove", replica, [element, ...named("stamp", stamp)], act, (index, result) => {
+      const marks = { stamp: evaluate(stamp, result), identifiers: evaluate(identifiers, result) };
+      return this.#reports.issue(index, operations.remove(element, marks), evaluate(message, result));
+    });
+  }
+
+  /**
+   * Reports that a set removes all that the replica shows by the reports, as a removal of each element. Those of an LWW
+   * set need `stamps`: a mapping from elements to stamps, or the stamps in the order in which the elements were first
+   * used.
+   */
+  clear(replica, { stamps, act, message } = NONE) {
+    return this.#step("clear", replica, named("stamps", stamps), act, (index, result) =>
+      this.#reports.clear(index, evaluate(stamps, result), evaluate(message, result)),
+    );
   }
 
   /** Reports a list's insertion directly behind the anchor, or at the start if that is null. */
-  insertAfter(replica, anchor, element, stamp, options) {
-    const create = (result) => operations.insertAfter(anchor, element, evaluate(stamp, result));
-    return this.update(replica, create, options);
+  insertAfter(replica, anchor, element, stamp, { act, message } = NONE) {
+    return this.#step("insertAfter", replica, [anchor, element, stamp], act, (index, result) => {
+      const operation = operations.insertAfter(anchor, element, evaluate(stamp, result));
+      return this.#reports.issue(index, operation, evaluate(message, result));
+    });
   }
 
   /** Waits for all replies. Rejects with the failure, if there is one. */
@@ -142,6 +173,7 @@ export class Recorder {
    * thrown after an act is thrown again, since no later step was checked.
    */
   async close() {
+    unclosed.close(this.#openKey);
     await this.#last;
     try {
       return await this.#monitor.close();
@@ -152,6 +184,7 @@ export class Recorder {
 
   /** Ends the history without waiting for replies. */
   stop() {
+    unclosed.close(this.#openKey);
     return this.#monitor.stop();
   }
 
@@ -165,17 +198,33 @@ export class Recorder {
     return this.#translator.header();
   }
 
-  /** Returns a report on this text of this recorder, without the messages' keys. */
+  /** Adds a line that a failure's message shows before the next report. */
+  note(text) {
+    this.#reports.note(text);
+  }
+
+  /** Returns a report on this text of this recorder. */
   failureReport(text) {
-    return new FailureReport(this.#translator, text, new Map(), this.#notes);
+    return this.#reports.failureReport(text);
   }
 
   /** Runs `before` and the act, and calls `report` with the replica's number and the act's result. */
-  #step(replica, act, report, before) {
-    const run = () => this.#run(replica, act, report, before);
-    const ran = this.#last === undefined ? attempt(run) : this.#last.then(run);
-    if (!(ran instanceof Promise)) return Promise.resolve(ran);
-    // Later steps wait for this one.
+  #step(word, replica, parameters, act, report, before) {
+    if (this.#last !== undefined) {
+      return this.#track(this.#last.then(() => this.#run(word, replica, parameters, act, report, before)));
+    }
+    let ran;
+    try {
+      ran = this.#run(word, replica, parameters, act, report, before);
+    } catch (error) {
+      return Promise.reject(error);
+    }
+    if (ran instanceof Promise) return this.#track(ran);
+    return ran === undefined ? DONE : Promise.resolve(ran);
+  }
+
+  /** Lets later steps wait for this one. */
+  #track(ran) {
     const last = ran.then(ignore, ignore).then(() => {
       if (this.#last === last) this.#last = undefined;
     });
@@ -183,25 +232,22 @@ export class Recorder {
     return ran;
   }
 
-  #run(replica, act, report, before) {
-    this.#throwFailure();
-    const index = this.#translator.replicas.indexOf(replica);
+  #run(word, replica, parameters, act, report, before) {
+    const index = this.#enter(word, replica, parameters);
     before?.();
     const result = act?.();
     if (typeof result?.then === "function") {
-      return Promise.resolve(result).then((it) => this.#report(index, it, report));
+      return Promise.resolve(result).then((it) => this.#report(index, it, report, word, replica, parameters));
     }
-    return this.#report(index, result, report);
+    return this.#report(index, result, report, word, replica, parameters);
   }
 
-  #report(index, result, report) {
+  #report(index, result, report, word, replica, parameters) {
     let space;
     try {
       space = report(index, result);
     } catch (error) {
-      // The act has run and is not reported, so the monitor would check later steps against a wrong history.
-      if (error instanceof NotRepresentable) this.#failure = error;
-      throw error;
+      throw this.#ended(error, word, replica, parameters);
     }
     if (space === undefined) return result;
     return space.then(() => {
@@ -210,121 +256,54 @@ export class Recorder {
     });
   }
 
+  /** Returns the number of the replica. Throws the failure, if there is one. */
+  #enter(word, replica, parameters) {
+    if (this.#reports.failure !== null || this.#monitor.unexpected !== null) this.#throwFailure();
+    const index = this.#translator.replicas.findIndex(replica);
+    if (index !== undefined) return index;
+    try {
+      return this.#translator.replicas.indexOf(replica);
+    } catch (error) {
+      throw new NotRepresentable(`${describeCall(word, replica, parameters)}: ${error.message}`);
+    }
+  }
+
   #throwFailure() {
-    if (this.#failure === null && this.#monitor.unexpected !== null) {
-      const { command, reply } = this.#monitor.unexpected;
-      const text = this.#monitor.history(command + 1);
-      const report = new FailureReport(this.#translator, text, this.#messageKeys, this.#notes);
-      this.#failure = createError(report, text, reply, this.#path, this.#monitor.program);
+    try {
+      this.#reports.throwFailure();
+    } catch (error) {
+      unclosed.close(this.#openKey);
+      throw error;
     }
-    if (this.#failure !== null) throw this.#failure;
   }
 
-  // Each of the following returns a promise to wait for if the monitor's window is full, and undefined otherwise.
-
-  #post(line, expected) {
-    this.#commands += 1;
-    return this.#monitor.post(line, expected);
-  }
-
-  #update(replica, update, message) {
-    if (message !== undefined && this.#messages.get(message) !== undefined) {
-      throw new NotRepresentable(`the message ${inspect(message)} was reported before: each message needs its own key`);
-    }
-    const label = this.#labels;
-    const operation = this.#observed === null ? update : this.#numberIdentifiers(replica, update);
-    const line = this.#translator.operationLine(replica, operation);
-    this.#labels += 1;
-    if (message !== undefined) {
-      this.#messages.set(message, { label, issuer: replica, position: this.#updates[replica].length });
-      this.#messageKeys.set(label, message);
-    }
-    this.#updates[replica].push(label);
-    this.#delivered[replica][replica] += 1;
-    if (this.#observed !== null) {
-      const { value: element, identifiers, word } = operation;
-      this.#observed.issue(replica, label, { element, identifiers, isAddition: word === "add" });
-    }
-    return this.#post(line, `ok ${label}`);
-  }
-
-  #deliver(replica, { label, issuer, position }) {
-    const delivered = this.#delivered[replica];
-    if (position < delivered[issuer]) return undefined;
-    delivered[issuer] = position + 1;
-    this.#observed?.deliver(replica, label);
-    return this.#post(this.#translator.deliveryLine(replica, label), `got ${label}`);
-  }
-
-  #merge(replica, messages) {
-    const isSeen = messages instanceof Seen;
-    if (isSeen) this.#noteMerge(replica, messages.replica);
-    const merged = isSeen ? this.#missing(replica, messages) : Array.from(messages, (it) => this.#findMessage(it));
-    // Labels are numbered in the order of the reports, so this order is causal.
-    merged.sort((one, other) => one.label - other.label);
-    const full = merged.map((it) => this.#deliver(replica, it)).filter((it) => it !== undefined);
-    return full.length === 0 ? undefined : Promise.all(full);
-  }
-
-  #join(replica, source) {
-    const line = this.#translator.join(replica, source);
-    const index = this.#delivered.push([...this.#delivered[source]]) - 1;
-    for (const delivered of this.#delivered) delivered.push(0);
-    this.#updates.push([]);
-    this.#observed?.join(source);
-    return this.#post(line, `joined ${index}`);
-  }
-
-  #read(replica, value) {
-    const line = this.#translator.readLine(replica, value);
-    this.#labels += 1;
-    return this.#post(line, `ok ${this.#labels - 1}`);
-  }
-
-  /** Returns the operation of an OR-Set with numbers as identifiers. */
-  #numberIdentifiers(replica, operation) {
-    const numbering = this.#translator.identifiers;
-    if (operation.identifiers !== undefined) {
-      return { ...operation, identifiers: operation.identifiers.map((it) => numbering.numberOf(it)) };
-    }
-    const isAddition = operation.word === "add";
-    const numbers = isAddition ? [numbering.reserve()] : this.#observed.identifiersOf(replica, operation.value);
-    return { ...operation, identifiers: numbers };
-  }
-
-  #noteMerge(replica, sender) {
-    const note = `${inspect(this.#translator.replicas.keys[replica])} merges the state of ${inspect(sender)}`;
-    this.#notes.set(this.#commands, [...(this.#notes.get(this.#commands) ?? []), note]);
-  }
-
-  /** Returns the updates of a state that the replica lacks. */
-  #missing(replica, seen) {
-    const delivered = this.#delivered[replica];
-    return seen.counts.flatMap((count, issuer) => {
-      const first = delivered[issuer];
-      return this.#updates[issuer].slice(first, count).map((label, at) => ({ label, issuer, position: first + at }));
-    });
-  }
-
-  #findMessage(message) {
-    const found = this.#messages.get(message);
-    if (found === undefined) {
-      throw new NotRepresentable(
-        `unknown message ${inspect(message)}: report the update that sends it before its delivery`,
-      );
-    }
-    return found;
+  /**
+   * Returns the error to throw. What cannot be represented ends the history: the act has run and is not reported, so
+   * later steps would be checked wrongly.
+   */
+  #ended(error, word, replica, parameters) {
+    if (!(error instanceof NotRepresentable)) return error;
+    unclosed.close(this.#openKey);
+    const call = describeCall(word, replica, parameters);
+    this.#reports.failure = new NotRepresentable(`${call}: ${error.message}`, { cause: error.cause });
+    return this.#reports.failure;
   }
 }
 
 // Returns the value, or its result for the act's result if it is a function.
 const evaluate = (value, result) => (typeof value === "function" ? value(result) : value);
 const ignore = () => {};
+// Returns an option as the caller wrote it, as a list, which is empty if there is none.
+const named = (name, value) => (value === undefined || typeof value === "function" ? [] : [{ [name]: value }]);
 
-function attempt(run) {
-  try {
-    return run();
-  } catch (error) {
-    return Promise.reject(error);
-  }
+/** Returns a call as the user wrote it, without what is a function. */
+function describeCall(word, replica, parameters) {
+  const shown = [replica, ...parameters.filter((it) => it !== undefined && typeof it !== "function")];
+  return `${word}(${shown.map((it) => inspect(it, { breakLength: Infinity })).join(", ")})`;
+}
+
+/** Returns the first place of a stack that is outside the client. */
+function placeOf(stack) {
+  const line = stack.split("\n").slice(1).find((it) => !it.includes(OWN_FOLDER)) ?? "an unknown place";
+  return line.trim().replace(/^at (?:.* \()?(?:file:\/\/)?([^()]*?)\)?$/, "$1");
 }

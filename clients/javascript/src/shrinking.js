@@ -1,42 +1,80 @@
 // Shrinks a failed run as long as it fails for the same cause. Each attempt is a real run.
-import { COPYING } from "./plans.js";
+import { DeliveryState } from "./delivery_state.js";
+import { isSameCause } from "./runs.js";
+import { COPYING, RECEIVING, makeStep, renumbered } from "./steps.js";
 
 // Removing each pair of steps is affordable up to this number of steps.
 const MAX_STEPS_FOR_PAIRS = 16;
+const STRATEGIES = [removeReplica, uniteReplicas, removeRange, removeUpdate, mergeAtOnce, calm, removePair];
 
-/** Returns a run from which no replica, no update and no other step can be removed. */
+/** Returns a run from which no replica, no update and no other step can be removed, and no message delayed. */
 export async function shrink(failure, run) {
+  const runOnce = withoutRepetition(run);
   let smallest = failure;
   let before;
   do {
-    before = smallest.steps.length;
-    for (const strategy of [removeReplica, uniteReplicas, removeRange, removeUpdate, removePair]) {
-      smallest = await applyStrategy(smallest, run, strategy);
-    }
-  } while (smallest.steps.length < before);
+    before = smallest;
+    for (const strategy of STRATEGIES) smallest = await applyStrategy(smallest, runOnce, strategy);
+  } while (isSmaller(smallest.steps, before.steps));
   return smallest;
+}
+
+/** Returns a function that runs each plan once, and returns null for one that it was called with before. */
+function withoutRepetition(run) {
+  const tried = new Set();
+  return async (steps) => {
+    // Plans that differ only in the numbers of their updates are equal.
+    const key = JSON.stringify(renumbered(steps));
+    if (tried.has(key)) return null;
+    tried.add(key);
+    return run(steps);
+  };
 }
 
 /** Tries the candidates of a strategy, and starts again from each smaller run that fails for the same cause. */
 async function applyStrategy(failure, run, strategy) {
   for (const steps of strategy(failure.steps)) {
     const result = await run(steps);
-    if (result !== null && result.cause === failure.cause && result.steps.length < failure.steps.length) {
+    if (result !== null && isSameCause(result.cause, failure.cause) && isSmaller(result.steps, failure.steps)) {
       return applyStrategy(result, run, strategy);
     }
   }
   return failure;
 }
 
+/** Returns whether there are fewer steps, or as many of which fewer are deliveries out of order. */
+function isSmaller(steps, others) {
+  if (steps.length !== others.length) return steps.length < others.length;
+  return earlyArrivals(steps).size < earlyArrivals(others).size;
+}
+
+/** Returns the deliveries, by their places, that come before an update that theirs sees, and that update. */
+export function earlyArrivals(steps) {
+  const numbers = steps.map((it) => Math.max(it.replica, COPYING.includes(it.action) ? it.number : 0));
+  const state = new DeliveryState("", 1 + Math.max(0, ...numbers));
+  const early = new Map();
+  steps.forEach((step, place) => {
+    const { action, replica, number } = step;
+    if (action === "update") state.update(step);
+    if (action === "join") state.join(replica, number);
+    if (action === "merge") state.merge(replica, state.counts(number));
+    if (action !== "deliver" || !state.canArrive(replica, number)) return;
+    const cause = state.missingCause(replica, number);
+    if (cause) early.set(place, cause);
+    state.arrive(replica, number);
+  });
+  return early;
+}
+
 /** Yields the steps without those of one replica and without all that it sent. */
 function* removeReplica(steps) {
   for (const replica of new Set(steps.map((it) => it.replica))) {
-    const own = steps.filter((it) => it.action === "update" && it.replica === replica).map((it) => it.update);
+    const own = steps.filter((it) => it.action === "update" && it.replica === replica).map((it) => it.number);
     yield steps.filter(
       (it) =>
         it.replica !== replica &&
-        !(it.action === "deliver" && own.includes(it.update)) &&
-        !(COPYING.includes(it.action) && it.update === replica),
+        !(RECEIVING.includes(it.action) && own.includes(it.number)) &&
+        !(COPYING.includes(it.action) && it.number === replica),
     );
   }
 }
@@ -48,8 +86,8 @@ function* uniteReplicas(steps) {
     if (removed === kept) continue;
     const moved = (replica) => (replica === removed ? kept : replica);
     yield steps.map((it) => {
-      const update = COPYING.includes(it.action) ? moved(it.update) : it.update;
-      return { ...it, replica: moved(it.replica), update };
+      const number = COPYING.includes(it.action) ? moved(it.number) : it.number;
+      return { ...it, replica: moved(it.replica), number };
     });
   }
 }
@@ -68,8 +106,31 @@ function* removeRange(steps) {
 
 /** Yields the steps without one update and its deliveries. */
 function* removeUpdate(steps) {
-  for (const { update } of steps.filter((it) => it.action === "update")) {
-    yield steps.filter((it) => (it.action !== "update" && it.action !== "deliver") || it.update !== update);
+  const isOf = (it, number) => (it.action === "update" || RECEIVING.includes(it.action)) && it.number === number;
+  for (const { number } of steps.filter((it) => it.action === "update")) {
+    yield steps.filter((it) => !isOf(it, number));
+  }
+}
+
+/** Yields the steps with the current state in a merge, in the place of one that was taken early. */
+function* mergeAtOnce(steps) {
+  const taken = new Map(steps.filter((it) => it.action === "snapshot").map((it) => [it.number, it.replica]));
+  for (const [place, step] of steps.entries()) {
+    if (step.action !== "merge_snapshot" || !taken.has(step.number)) continue;
+    const merge = makeStep("merge", step.replica, taken.get(step.number));
+    const changed = [...steps.slice(0, place), merge, ...steps.slice(place + 1)];
+    yield changed.filter((it) => it.action !== "snapshot" || it.number !== step.number);
+  }
+}
+
+/** Yields the steps with one message delayed behind another of its replica, if it arrives before a cause. */
+function* calm(steps) {
+  for (const place of earlyArrivals(steps).keys()) {
+    const step = steps[place];
+    for (let later = place + 1; later < steps.length; later += 1) {
+      if (steps[later].action !== "deliver" || steps[later].replica !== step.replica) continue;
+      yield [...steps.slice(0, place), ...steps.slice(place + 1, later + 1), step, ...steps.slice(later + 1)];
+    }
   }
 }
 

@@ -38,31 +38,36 @@ export class Translator {
     return `RAH 2 ${this.kind}\nreplicas ${this.replicas.initialNames.join(" ")}\n`;
   }
 
-  /** Returns the line of an update at this replica. The identifiers of an OR-Set's update are numbers. */
-  operationLine(replica, operation) {
-    if (!this.#operations.includes(operation.word)) {
-      const expected = this.#operations.join(" or ");
-      throw new NotRepresentable(
-        `${operation.word} is not an operation of the kind ${this.kind}: expected ${expected}`,
-      );
-    }
-    return `${this.replicas.names[replica]} ${this.#formatters[operation.word](replica, operation)}`;
+  /**
+   * Returns the line of an update at this replica, without the replica's name. The identifiers of an OR-Set's update
+   * are numbers.
+   */
+  operationFields(replica, operation) {
+    this.requireOperation(operation?.word);
+    return this.#formatters[operation.word](replica, operation);
+  }
+
+  /** Throws `NotRepresentable` if this is not an operation of the kind. */
+  requireOperation(word) {
+    if (this.#operations.includes(word)) return;
+    const expected = this.#operations.join(" or ");
+    throw new NotRepresentable(`${word} is not an operation of the kind ${this.kind}: expected ${expected}`);
+  }
+
+  /** Returns the number of a value or of an element. */
+  numberOf(thing) {
+    return this.#values.numberOf(thing);
+  }
+
+  /** Returns the value or the element with this number. */
+  thingOf(number) {
+    return this.#values.thingOf(number);
   }
 
   /** Adds a replica that joins from the source, and returns the line of the join. */
   join(replica, source) {
     this.replicas.join(replica);
     return `join ${this.replicas.names.at(-1)} ${this.replicas.names[source]}`;
-  }
-
-  /** Returns the line of a delivery. */
-  deliveryLine(replica, label) {
-    return `${this.replicas.names[replica]} got ${label}`;
-  }
-
-  /** Returns the line of a read that returned this value. */
-  readLine(replica, value) {
-    return `${this.replicas.names[replica]} read ${this.#formatResult(value)}`;
   }
 
   #formatWrite(replica, operation) {
@@ -105,7 +110,8 @@ export class Translator {
     return ` @${this.#clocks.numberOf(stamp[0])}`;
   }
 
-  #formatResult(value) {
+  /** Returns the last field of the line of a read that returned this value. */
+  formatResult(value) {
     if (this.kind === "counter") {
       const isWhole = typeof value === "bigint" || Number.isInteger(value);
       if (!isWhole || value < MIN_COUNT || value > MAX_COUNT) {
@@ -161,13 +167,25 @@ export class Translator {
   }
 
   #describeResult(result) {
-    if (this.kind === "counter") return result;
-    if (this.kind === "register") return result === "none" ? inspect(this.#nothing) : this.#describeValue(result);
-    return `[${parseNumbers(result).map((it) => this.#describeValue(it)).join(", ")}]`;
+    const value = this.resultOf(result);
+    const isList = this.kind !== "counter" && this.kind !== "register";
+    return isList ? `[${value.map((it) => inspect(it)).join(", ")}]` : inspect(value);
   }
 
-  #describeIdentifiers(identifiers) {
-    const things = parseNumbers(identifiers).map((it) => this.identifiers.thingOf(it));
+  /** Returns the result of a read, from the last field of its line. */
+  resultOf(field) {
+    if (this.kind === "counter") return Number(field);
+    if (this.kind === "register") return field === "none" ? this.#nothing : this.thingOf(field);
+    return parseNumbers(field).map((it) => this.thingOf(it));
+  }
+
+  #describeIdentifiers(field) {
+    return this.describeIdentifiers(parseNumbers(field));
+  }
+
+  /** Describes the identifiers with these numbers. */
+  describeIdentifiers(numbers) {
+    const things = numbers.map((it) => this.identifiers.thingOf(it));
     return things.map((it) => (it === undefined ? "an unnamed one" : inspect(it))).join(", ") || "none";
   }
 }

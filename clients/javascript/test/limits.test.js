@@ -139,7 +139,7 @@ test("the names of the replicas of a random run", async () => {
       created.add(name);
       return { increment() {}, decrement() {}, receive() {}, read: () => 0 };
     };
-    assert.equal(await checkRandom(make, "counter", count, 0, 1), 1);
+    assert.equal((await checkRandom(make, "counter", count, 0, 1)).runs, 1);
     const names = [...created].sort();
     assert.deepEqual([names.length, names[0], names.at(-1)], [count, first, last]);
   }

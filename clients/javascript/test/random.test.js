@@ -4,7 +4,8 @@ import { spawnSync } from "node:child_process";
 import { readFileSync } from "node:fs";
 import { test } from "node:test";
 import { NotRepresentable, NotLinearizable, Refused, ReplicaRaised, checkRandom } from "../index.js";
-import { plan } from "../src/plans.js";
+import { Planner } from "../src/plans.js";
+import { makeTraits } from "../src/profile.js";
 import { checkText, findForManyRuns } from "../src/program.js";
 import { UNOBSERVABLE, OBSERVABLE } from "./planted.js";
 import { Counter, LwwSet, CORRECT, Register, Rga, forking } from "./replicas.js";
@@ -15,6 +16,11 @@ const RUNS = Number(process.env.YEHATU_RUNS ?? 60);
 const FOUND_WITHIN = 200;
 const LONGEST_HISTORY = 12;
 const create = (Replica) => (name) => new Replica(name);
+const plan = (replicas, seed, options) =>
+  new Planner("rga", replicas, 30, seed, makeTraits(["insertAfter", "remove"], options)).plan();
+
+/** Tests replicas in random runs, and returns the number of those that passed. */
+const countRuns = async (...parameters) => (await checkRandom(...parameters)).runs;
 
 /** A counter with merged states: for each replica the largest numbers of its increments and decrements. */
 class MergedCounter {
@@ -120,7 +126,11 @@ function requireSmallFailure(failed) {
   assert.ok(failed instanceof NotLinearizable, failed);
   const text = readFileSync(failed.history, "utf8");
   assert.ok(text.split("\n").length - 3 <= LONGEST_HISTORY, text);
-  assert.ok(failed.message.includes(text) && failed.message.includes("seed "));
+  const shown = failed.message.split("\n");
+  for (const line of text.trimEnd().split("\n")) {
+    assert.ok(shown.some((it) => it === `    ${line}` || it.startsWith(`    ${line}  `)), line);
+  }
+  assert.ok(failed.message.includes("seed "));
   assert.equal(checkText(findForManyRuns(), text).status, 1);
 }
 
@@ -133,46 +143,46 @@ async function forEachBug(t, bugs, act) {
 
 test("all runs of each kind pass", async (t) => {
   for (const [kind, Replica] of Object.entries(CORRECT)) {
-    await t.test(kind, async () => assert.equal(await checkRandom(create(Replica), kind, 3, 30, RUNS), RUNS));
+    await t.test(kind, async () => assert.equal(await countRuns(create(Replica), kind, 3, 30, RUNS), RUNS));
   }
 });
 
 // Some of the methods are asynchronous.
 test("states that are merged", async () => {
-  assert.equal(await checkRandom(create(MergedCounter), "counter", 3, 30, RUNS), RUNS);
+  assert.equal(await countRuns(create(MergedCounter), "counter", 3, 30, RUNS), RUNS);
 });
 
 test("replicas with names of their own", async () => {
   const names = ["Ann", "Bob", "Carol", "Dave"];
-  assert.equal(await checkRandom(create(CORRECT.register), "register", names, 20, [7, 9]), 2);
+  assert.equal(await countRuns(create(CORRECT.register), "register", names, 20, [7, 9]), 2);
 });
 
 test("a seed determines the plan", () => {
-  const [one, same, other] = [5, 5, 6].map((seed) => plan("rga", 3, 30, seed, false));
+  const [one, same, other] = [5, 5, 6].map((seed) => plan(3, seed));
   assert.deepEqual(one, same);
   assert.notDeepEqual(one, other);
 });
 
 test("all runs of each kind with joins pass", async (t) => {
   for (const [kind, Replica] of Object.entries(CORRECT)) {
-    await t.test(kind, async () => assert.equal(await checkRandom(create(forking(Replica)), kind, 4, 30, RUNS), RUNS));
+    await t.test(kind, async () => assert.equal(await countRuns(create(forking(Replica)), kind, 4, 30, RUNS), RUNS));
   }
 });
 
 test("states that are merged, and replicas that join", async () => {
-  assert.equal(await checkRandom(create(forking(MergedCounter)), "counter", 4, 30, RUNS), RUNS);
+  assert.equal(await countRuns(create(forking(MergedCounter)), "counter", 4, 30, RUNS), RUNS);
 });
 
 test("many replicas", async () => {
-  assert.equal(await checkRandom(create(forking(Rga)), "rga", 64, 40, 3), 3);
-  assert.equal(await checkRandom(create(Rga), "rga", 20, 40, 3), 3);
+  assert.equal(await countRuns(create(forking(Rga)), "rga", 64, 40, 3), 3);
+  assert.equal(await countRuns(create(Rga), "rga", 20, 40, 3), 3);
 });
 
 test("some replicas are initial, and others join", () => {
   const joins = Array.from({ length: 20 }, (_, seed) =>
-    plan("rga", 4, 30, seed, false, true).filter((it) => it.action === "join"),
+    plan(4, seed, { forks: true }).filter((it) => it.action === "join"),
   );
-  assert.ok(joins.flat().every((it) => it.update < it.replica));
+  assert.ok(joins.flat().every((it) => it.number < it.replica));
   const counts = joins.map((it) => it.length);
   assert.deepEqual([Math.min(...counts), Math.max(...counts)], [0, 3]);
 });
@@ -209,7 +219,10 @@ test("a copy that fails is reported", async () => {
 
 test("each observable bug is found and shrunk", (t) =>
   forEachBug(t, OBSERVABLE, async (kind, Replica) => {
-    requireSmallFailure(await checkRandom(create(Replica), kind, 3, 30, FOUND_WITHIN).catch((fault) => fault));
+    const failed = await checkRandom(create(Replica), kind, 3, 30, FOUND_WITHIN).catch((fault) => fault);
+    // An insertion behind an element that was lost has no place.
+    if (failed instanceof ReplicaRaised) assert.ok(kind === "rga" && Replica === OBSERVABLE["a delivery is lost"].rga);
+    else requireSmallFailure(failed);
   }));
 
 test("a merge that counts twice", async () => {
@@ -224,7 +237,7 @@ test("an old state that overwrites", async () => {
 
 test("other bugs change no result", (t) =>
   forEachBug(t, UNOBSERVABLE, async (kind, Replica) => {
-    assert.equal(await checkRandom(create(Replica), kind, 3, 30, RUNS >> 1), RUNS >> 1);
+    assert.equal(await countRuns(create(Replica), kind, 3, 30, RUNS >> 1), RUNS >> 1);
   }));
 
 test("a replica that fails is shrunk too", async () => {

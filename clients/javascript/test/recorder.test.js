@@ -205,7 +205,7 @@ test("many callers with a replica each", async () => {
 
 test("a delivery of an unknown message is rejected", async () => {
   const recorder = new Recorder("counter", ["a"]);
-  await assert.rejects(recorder.deliver("a", 5), isNotRepresentable(/unknown message 5/));
+  await assert.rejects(recorder.deliver("a", 5), isNotRepresentable(/message 5; none is known/));
   await recorder.stop();
 });
 

@@ -5,12 +5,13 @@
 import assert from "node:assert/strict";
 import { test } from "node:test";
 import { shrink } from "../src/shrinking.js";
+import { makeStep } from "../src/steps.js";
 
-const NO = "no";
-const update = (letter, number, replica = 0) => ({ action: "update", replica, update: number, method: letter });
-const deliver = (letter, number, replica) => ({ action: "deliver", replica, update: number, method: letter });
-const merge = (letter, replica, source) => ({ action: "merge", replica, update: source, method: letter });
-const read = (letter, replica = 0) => ({ action: "read", replica, method: letter });
+const NO = ["no"];
+const update = (letter, number, replica = 0) => makeStep("update", replica, number, letter);
+const deliver = (letter, number, replica) => makeStep("deliver", replica, number, letter);
+const merge = (letter, replica, source) => makeStep("merge", replica, source, letter);
+const read = (letter, replica = 0) => makeStep("read", replica, 0, letter);
 /** Returns an update for each letter, all at one replica. */
 const updates = (letters) => [...letters].map((letter, number) => update(letter, number));
 const lettersOf = (steps) => steps.map((it) => it.method).join("");
@@ -18,7 +19,7 @@ const lettersOf = (steps) => steps.map((it) => it.method).join("");
 /** Returns the steps that a real run executes: each update is delivered once, and never to its own replica. */
 function executable(steps) {
   const delivered = new Set();
-  return steps.filter(({ action, replica, update: number }) => {
+  return steps.filter(({ action, replica, number }) => {
     if (action === "merge") return replica !== number;
     if (action === "read") return true;
     const isNew = !delivered.has(`${replica} ${number}`);
@@ -100,6 +101,6 @@ test("the strategies are tried again after a later one succeeded", async () => {
 });
 
 test("a run that fails for another cause is not accepted", async () => {
-  const causeOf = (steps) => (lettersOf(steps).includes("b") ? NO : "refused stamp-taken");
+  const causeOf = (steps) => (lettersOf(steps).includes("b") ? NO : ["refused", "stamp-taken"]);
   assert.equal(await smallest(updates("abc"), causeOf), "b");
 });

@@ -1,0 +1,110 @@
+// The error for a failed random run: its message and its files.
+import { inspect } from "node:util";
+import { FlakyRun, NotLinearizable, Refused, ReplicaRaised } from "./errors.js";
+import { saveHistory } from "./failure_report.js";
+import { describeFaults } from "./faults.js";
+import { regressionTest } from "./regression.js";
+import { store } from "./stored.js";
+
+// The largest number of lines of a history that a message shows.
+const SHOWN_LINES = 40;
+
+/**
+ * Creates the error for a shrunk run, and stores its history and its steps.
+ *
+ * `summary` says which run it was. The steps are stored in the file `failure`, or beside the history; a run that was
+ * `stored` before is not stored again.
+ */
+export function createError(setting, small, { seed, summary, failure, stored }) {
+  const [history, path] = stored === undefined ? storeFailure(setting, small, seed, failure) : [beside(stored), stored];
+  const report = small.recorder.failureReport(small.text);
+  const reply = small.raised === undefined ? small.replies.at(-1) : "";
+  const explanation = report.explain(small.text, reply, setting.program);
+  const faults = describeFaults(small.steps, setting.replicas).join("; ");
+  const parts = [
+    ...(faults === "" ? [] : [`at work: ${faults}`]),
+    `${summary}; the history is ${history}, and the steps for replay are ${path}:\n`,
+    indented(header(small.text)),
+    report.formatCommands(small.replies, { most: SHOWN_LINES }),
+  ];
+  if (stored === undefined) {
+    const expected = small.steps.at(-1).action === "read" ? report.expectedRead(explanation) : null;
+    parts.push("\nthe same as a test:\n", indented(regressionTest(setting, small, { seed, expected, path })));
+  }
+  const details = parts.join("\n").trimEnd();
+  const error = small.raised === undefined
+    ? createRejected(report, small, history, `${report.summarize(reply, explanation)}\n${details}`)
+    : createRaised(setting, small, history, details);
+  error.steps = path;
+  return error;
+}
+
+function createRejected(report, small, history, message) {
+  const operation = report.describe(report.commands.length - 1);
+  const Kind = small.cause[0] === "no" ? NotLinearizable : Refused;
+  return new Kind(message, operation, small.replies.at(-1), history);
+}
+
+function createRaised(setting, small, history, details) {
+  const call = describeRaised(setting, small);
+  return new ReplicaRaised(`${call}\n${details}`, call, "", history, { cause: small.raised.error });
+}
+
+/** Creates the error for a run that did not fail in the same way again. */
+export function createFlaky(setting, found, again, { seed, summary, failure }) {
+  const [history, stored] = storeFailure(setting, found, seed, failure);
+  const [operation, first] = answerOf(setting, found);
+  const second = again === null ? "it passed" : answerOf(setting, again)[1];
+  const error = new FlakyRun(
+    `${summary} failed, and the same steps did not fail in the same way again: the class is not deterministic ` +
+      `(random numbers, time, the order of a set, or what replicas share)\nat one time: ${first}\n` +
+      `at another time: ${second}\nthe history is ${history}, and the steps are ${stored}`,
+    operation, found.raised === undefined ? found.replies.at(-1) : "", history,
+  );
+  error.steps = stored;
+  return error;
+}
+
+/** Returns what a replica did, and what came of it. */
+function answerOf(setting, failure) {
+  if (failure.raised !== undefined) {
+    const call = describeRaised(setting, failure);
+    return [call, call];
+  }
+  const report = failure.recorder.failureReport(failure.text);
+  return [report.describe(report.commands.length - 1), report.summarize(failure.replies.at(-1), null)];
+}
+
+const describeRaised = (setting, failure) =>
+  `${describeCall(setting, failure.steps.at(-1))} threw ${failure.raised.error}`;
+
+/** Writes the history and the steps, and returns both paths. */
+function storeFailure(setting, failure, seed, path) {
+  const history = saveHistory(failure.text, path === undefined ? undefined : beside(path));
+  const steps = path ?? history.replace(/\.rah$/, ".json");
+  const { kind, replicas, profile } = setting;
+  store(steps, { seed, kind, replicas, profile, steps: failure.steps, cause: failure.cause, history: failure.text });
+  return [history, steps];
+}
+
+const beside = (path) => `${path.replace(/\.[^./]*$/, "")}.rah`;
+const header = (text) => text.split("\n").slice(0, 2).join("\n");
+const indented = (text) => text.split("\n").map((it) => (it === "" ? "" : `    ${it}`)).join("\n").trimEnd();
+
+/** Returns the call of a replica's method that a step makes. */
+function describeCall(setting, { action, replica, number, method, arguments: parameters }) {
+  const nameOf = (it) => inspect(setting.replicas[it]);
+  const name = nameOf(replica);
+  const calls = {
+    update: `${method}(${parameters.map((it) => inspect(it)).join(", ")})`,
+    deliver: `receive(message ${number})`,
+    duplicate: `receive(message ${number}) again`,
+    merge: `merge(state of ${nameOf(number)})`,
+    snapshot: "state()",
+    merge_snapshot: `merge(state ${number}, which was taken earlier)`,
+    save: "save()",
+    restart: "load(saved state)",
+    read: "read()",
+  };
+  return action === "join" ? `${nameOf(number)}: fork(${name})` : `${name}: ${calls[action]}`;
+}

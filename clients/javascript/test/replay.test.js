@@ -1,0 +1,279 @@
+// Failures that are run again: seeds with versions, stored steps, regression tests, and runs that do not repeat.
+import assert from "node:assert/strict";
+import { spawnSync } from "node:child_process";
+import { mkdtempSync, readFileSync, readdirSync, rmSync, writeFileSync } from "node:fs";
+import { tmpdir } from "node:os";
+import { extname, join } from "node:path";
+import { test } from "node:test";
+import * as yehatu from "../index.js";
+import { FlakyRun, NotLinearizable, ReplicaRaised, ReportFailed, checkRandom, replay } from "../index.js";
+import { PLANTED, saving } from "./network_replicas.js";
+import { OBSERVABLE } from "./planted.js";
+import { Asynchronous, Flaky, Stuttering, Unrepaired } from "./replayed.js";
+import { Counter, Register } from "./replicas.js";
+
+const TIES = OBSERVABLE["ties are broken by arrival"].register;
+const urlOf = (file) => JSON.stringify(new URL(file, import.meta.url).href);
+// The failures that were found before, since each is looked for and shrunk anew.
+const known = new Map();
+
+/** Returns the error of the first run that fails. */
+const failureOf = (Replica, kind, options) =>
+  checkRandom(Replica, kind, { seeds: 200, ...options }).then(
+    () => assert.fail("no run fails"),
+    (error) => (error instanceof ReportFailed ? error : Promise.reject(error)),
+  );
+
+/** Returns the error of the first run that fails, once found. */
+function knownFailure(Replica, kind, options) {
+  if (!known.has(Replica)) known.set(Replica, failureOf(Replica, kind, options));
+  return known.get(Replica);
+}
+
+/** Returns the regression test at the end of a message. */
+const sourceOf = (failed) =>
+  failed.message.split("\nthe same as a test:\n\n")[1].split("\n").map((it) => it.slice(4)).join("\n");
+
+/** Runs this with a new folder, which is removed afterwards. */
+async function inFolder(act) {
+  const folder = mkdtempSync(join(tmpdir(), "yehatu_"));
+  try {
+    return await act(folder);
+  } finally {
+    rmSync(folder, { recursive: true });
+  }
+}
+
+/** Runs a regression test in a process of its own. `imports` replaces the comment on where the class comes from. */
+const runSource = (source, imports) =>
+  inFolder((folder) => {
+    const path = join(folder, "regression.mjs");
+    const whole = source.replace(/^\/\/ .*$/m, imports).replace('"yehatu"', urlOf("../index.js"));
+    writeFileSync(path, whole);
+    const { NODE_TEST_CONTEXT: _, ...env } = process.env;
+    return spawnSync(process.execPath, ["--test-reporter=tap", path], { encoding: "utf8", env });
+  });
+
+const historyOf = (failed) => readFileSync(failed.history, "utf8");
+
+test("a seed with its version runs the same plan", async () => {
+  const failed = await knownFailure(TIES, "register");
+  const [, seed] = /seed (.*?),/.exec(failed.message);
+  assert.match(seed, /^2-\d+$/);
+  for (const again of [[seed], [Number(seed.slice(2))]]) {
+    assert.equal(historyOf(await failureOf(TIES, "register", { seeds: again })), historyOf(failed));
+  }
+});
+
+test("a seed of another version is rejected", async () => {
+  const cases = [
+    ["1-17", /of version 1 of the planner, and this is version 2, .* with replay\(/],
+    ["3-1", /of version 3 of the planner/],
+    ["17", /the seed '17' is unknown/],
+    ["2-x", /the seed '2-x' is unknown/],
+    [1.5, /the seed 1.5 is unknown/],
+    [true, /the seed true is unknown/],
+  ];
+  for (const [seed, message] of cases) {
+    const isExpected = (error) => error instanceof RangeError && message.test(error.message);
+    await assert.rejects(checkRandom(Counter, "counter", { seeds: [seed] }), isExpected);
+  }
+});
+
+test("a failure is stored and fails again", async () => {
+  const failed = await knownFailure(TIES, "register");
+  assert.equal(failed.steps, failed.history.replace(/\.rah$/, ".json"));
+  const stored = JSON.parse(readFileSync(failed.steps, "utf8"));
+  const keys = ["version", "seed", "kind", "replicas", "profile", "steps", "cause", "history"];
+  assert.deepEqual(Object.keys(stored), keys);
+  assert.deepEqual([stored.version, stored.kind, stored.cause], [1, "register", ["no"]]);
+  assert.equal(stored.history, historyOf(failed));
+  const again = await replay(TIES, failed.steps).catch((error) => error);
+  assert.ok(again instanceof NotLinearizable, again);
+  assert.ok(again.message.includes(`the stored run of seed ${stored.seed} still fails`));
+  assert.equal(again.operation, failed.operation);
+});
+
+test("a class that was repaired passes the stored run", async () => {
+  const failed = await knownFailure(TIES, "register");
+  assert.equal(await replay(Register, failed.steps), 4);
+});
+
+test("steps that the class cannot execute are left out", async () => {
+  const { Replica, kind } = PLANTED.forgets_its_clock;
+  const failed = await knownFailure(Replica, kind);
+  const stored = JSON.parse(readFileSync(failed.steps, "utf8"));
+  assert.equal(await replay(saving(Register), failed.steps), stored.steps.length);
+  // Without save and load nothing restarts, and nothing is saved.
+  class OfNoRestart extends Register {}
+  const left = stored.steps.filter(([action]) => action !== "restart" && action !== "save");
+  await inFolder(async (folder) => {
+    const path = join(folder, "failure.json");
+    writeFileSync(path, JSON.stringify({ ...stored, profile: { ...stored.profile, restarts: false } }));
+    assert.equal(await replay(OfNoRestart, path), left.length);
+  });
+  const again = await knownFailure(Unrepaired, "register");
+  await assert.rejects(replay(Unrepaired, again.steps), /still fails/);
+  await assert.rejects(replay(() => ({}), failed.steps), /the class has none of the methods/);
+});
+
+test("a run that fails in another way says so", async () => {
+  class Raising extends Register {
+    receive() {
+      throw new RangeError("else");
+    }
+  }
+  const failed = await knownFailure(TIES, "register");
+  const isExpected = (error) =>
+    error instanceof ReplicaRaised && /fails in another way \(raised RangeError, and then no\)/.test(error.message);
+  await assert.rejects(replay(Raising, failed.steps), isExpected);
+});
+
+test("a failure is stored at a given path", () =>
+  inFolder(async (folder) => {
+    const path = join(folder, "register.json");
+    const failed = await failureOf(TIES, "register", { failure: path });
+    assert.deepEqual([failed.steps, readdirSync(folder).sort()], [path, ["register.json", "register.rah"]]);
+    await assert.rejects(replay(TIES, path), NotLinearizable);
+  }));
+
+test("a file that is no failure is rejected", async () => {
+  const good = JSON.parse(readFileSync((await knownFailure(TIES, "register")).steps, "utf8"));
+  const cases = [
+    ["RAH 2 counter", /is not a stored failure: .*; expected the JSON that checkRandom wrote/],
+    ["[]", /it lacks version, seed, kind/],
+    [JSON.stringify({ ...good, version: 2 }), /has version 2 of the format, and this client reads 1/],
+    [JSON.stringify({ ...good, steps: [[1]] }), /step 1 is \[ 1 \]: expected a list of five values/],
+    [JSON.stringify({ ...good, steps: [["jump", 0, 0, "", []]] }), /step 1 has the action 'jump'/],
+    [JSON.stringify({ ...good, steps: [["read", 7, 0, "", []]] }), /step 1 is of replica 7, and there are 3/],
+    [JSON.stringify({ ...good, profile: { delivery: "fifo" } }), /has the delivery 'fifo'/],
+  ];
+  await inFolder(async (folder) => {
+    const path = join(folder, "failure.json");
+    for (const [text, message] of cases) {
+      writeFileSync(path, text);
+      const isExpected = (error) => error instanceof RangeError && message.test(error.message);
+      await assert.rejects(replay(TIES, path), isExpected);
+    }
+  });
+});
+
+test("passing runs leave no files", () =>
+  inFolder(async (folder) => {
+    const before = process.env.TMPDIR;
+    process.env.TMPDIR = folder;
+    try {
+      await checkRandom(Counter, "counter", { seeds: 20 });
+      const recorder = new yehatu.Recorder("counter", ["a"]);
+      await recorder.increment("a");
+      await recorder.close();
+      assert.deepEqual(readdirSync(folder), []);
+      await failureOf(TIES, "register");
+      assert.deepEqual(readdirSync(folder).map((it) => extname(it)).sort(), [".json", ".rah"]);
+    } finally {
+      if (before === undefined) delete process.env.TMPDIR;
+      else process.env.TMPDIR = before;
+    }
+  }));
+
+test("the history is printed once", async () => {
+  const { message } = await knownFailure(TIES, "register");
+  assert.equal(message.split("RAH 2 register").length, 2);
+  assert.equal(message.split("\n").filter((it) => it.includes(" write ")).length, 2);
+});
+
+test("the middle of a long history is left out", async () => {
+  const failed = await knownFailure(PLANTED.overflows_at_seven_bits.Replica, "counter");
+  assert.match(failed.message, /^ {4}\.\. +\d+ lines are left out here, and not in the file$/m);
+  assert.ok(historyOf(failed).split("\n").length > 128);
+  assert.ok(failed.message.split("\n").length < 80);
+});
+
+test("the regression test fails alone and passes once the class is right", async (t) => {
+  const planted = (bug, kind) => ({ Replica: OBSERVABLE[bug][kind], kind, module: "./planted.js", bug });
+  const cases = [
+    { Replica: Unrepaired, kind: "register", right: "Register" },
+    { Replica: Stuttering, kind: "counter", right: "Counter" },
+    { Replica: Asynchronous, kind: "register", right: "Register" },
+    { ...planted("a removal takes what it has not seen", "lwwset"), right: "LwwSet" },
+    { ...planted("children stand in rising order", "rga"), right: "Rga" },
+  ];
+  for (const { Replica, kind, right, bug } of cases) {
+    await t.test(Replica.name, async () => {
+      const source = sourceOf(await knownFailure(Replica, kind));
+      assert.ok(source.split("\n").length <= 30);
+      assert.ok(source.includes(`\n// ${Replica.name}: import it from its module\n`));
+      assert.doesNotMatch(source, /import \{ replay \}/);
+      const imports = bug === undefined
+        ? `import { ${Replica.name} } from ${urlOf("./replayed.js")};`
+        : `import { OBSERVABLE } from ${urlOf("./planted.js")};\nconst ${Replica.name} = OBSERVABLE["${bug}"].${kind};`;
+      const ran = await runSource(source, imports);
+      assert.deepEqual([ran.status, /^# fail 1$/m.test(ran.stdout)], [1, true], ran.stdout);
+      const repaired = `import { ${right} as ${Replica.name} } from ${urlOf("./replicas.js")};`;
+      assert.equal((await runSource(source, repaired)).status, 0);
+    });
+  }
+});
+
+test("the regression test has the faults of the network", async (t) => {
+  for (const [bug, text] of [
+    ["counts_duplicates", ".receive(m1)"],
+    ["keeps_one_message", ".receive(m2)"],
+    ["undoes_newer_entries", "structuredClone("],
+    ["overflows_at_seven_bits", "for (let times = 0; "],
+  ]) {
+    await t.test(bug, async () => {
+      const { Replica, kind, options } = PLANTED[bug];
+      const source = sourceOf(await knownFailure(Replica, kind, options));
+      assert.ok(source.includes(text), source);
+      assert.ok(source.split("\n").length <= 30);
+      const imports = `import { PLANTED } from ${urlOf("./network_replicas.js")};\n` +
+        `const ${Replica.name} = PLANTED.${bug}.Replica;`;
+      const ran = await runSource(source, imports);
+      assert.match(ran.stdout, /^# fail 1$/m);
+      assert.match(ran.stdout, /Expected values to be strictly equal/);
+    });
+  }
+});
+
+test("a regression test without an assertion replays the stored run", async () => {
+  const { Replica, kind } = PLANTED.forgets_its_clock;
+  const failed = await knownFailure(Replica, kind);
+  const source = sourceOf(failed);
+  assert.ok(source.includes(`await replay(ForgetsItsClock, "${failed.steps}");`), source);
+  const from = `from ${urlOf("./network_replicas.js")};`;
+  const ran = await runSource(source, `import { ForgetsItsClock } ${from}`);
+  assert.match(ran.stdout, /^# fail 1$/m);
+  const right = `import { RIGHT } ${from}\nconst ForgetsItsClock = RIGHT["register with restarts"].Replica;`;
+  assert.equal((await runSource(source, right)).status, 0);
+});
+
+test("a run that does not fail again is flaky", async () => {
+  Flaky.left = 1;
+  const failed = await checkRandom(Flaky, "counter").catch((error) => error);
+  assert.ok(failed instanceof FlakyRun && failed instanceof ReportFailed, failed);
+  assert.match(failed.message, /at one time: '.' reads -?\d+: not RA-linearizable/);
+  assert.match(failed.message, /at another time: it passed/);
+  assert.equal(JSON.parse(readFileSync(failed.steps, "utf8")).version, 1);
+});
+
+test("a failed run is run twice more before it is shrunk", async () => {
+  Flaky.left = 2;
+  await assert.rejects(checkRandom(Flaky, "counter", { seeds: [0] }), FlakyRun);
+  Flaky.left = Infinity;
+  await assert.rejects(checkRandom(Flaky, "counter"), NotLinearizable);
+});
+
+test("a run that fails in another way is flaky", async () => {
+  let reads = 0;
+  class Changing extends Counter {
+    read() {
+      reads += 1;
+      if (reads > 1) throw new RangeError(String(reads));
+      return 1000;
+    }
+  }
+  const isExpected = (error) =>
+    error instanceof FlakyRun && /at one time: .*at another time: .* threw RangeError/s.test(error.message);
+  await assert.rejects(checkRandom(Changing, "counter"), isExpected);
+});
