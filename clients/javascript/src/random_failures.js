@@ -21,9 +21,10 @@ export function createError(setting, small, { seed, summary, failure, stored }) 
   const reply = small.raised === undefined ? small.replies.at(-1) : "";
   const explanation = report.explain(small.text, reply, setting.program);
   const faults = describeFaults(small.steps, setting.replicas).join("; ");
+  const [first, run] = stored === undefined ? ["", `${summary}; `] : [`${summary}: `, ""];
   const parts = [
     ...(faults === "" ? [] : [`at work: ${faults}`]),
-    `${summary}; the history is ${history}, and the steps for replay are ${path}:\n`,
+    `${run}the history is ${history}, and the steps for replay are ${path}:\n`,
     indented(header(small.text)),
     report.formatCommands(small.replies, { most: SHOWN_LINES }),
   ];
@@ -33,8 +34,8 @@ export function createError(setting, small, { seed, summary, failure, stored }) 
   }
   const details = parts.join("\n").trimEnd();
   const error = small.raised === undefined
-    ? createRejected(report, small, history, `${report.summarize(reply, explanation)}\n${details}`)
-    : createRaised(setting, small, history, details);
+    ? createRejected(report, small, history, `${first}${report.summarize(reply, explanation)}\n${details}`)
+    : createRaised(small, history, describeRaised(setting, small), { first, details });
   error.steps = path;
   return error;
 }
@@ -45,9 +46,8 @@ function createRejected(report, small, history, message) {
   return new Kind(message, operation, small.replies.at(-1), history);
 }
 
-function createRaised(setting, small, history, details) {
-  const call = describeRaised(setting, small);
-  return new ReplicaRaised(`${call}\n${details}`, call, "", history, { cause: small.raised.error });
+function createRaised(small, history, call, { first, details }) {
+  return new ReplicaRaised(`${first}${call}\n${details}`, call, "", history, { cause: small.raised.error });
 }
 
 /** Creates the error for a run that did not fail in the same way again. */

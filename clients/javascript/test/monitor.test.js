@@ -212,7 +212,8 @@ test("the default program is that of the repository", () => {
       read() { return this.number; }
     }
     const { verdict } = await new Monitor("counter", ["a"]).close();
-    console.log(verdict, await checkRandom(() => new Counter(), "counter", 3, 30, 5));`;
+    const { runs } = await checkRandom(() => new Counter(), "counter", 3, 30, 5);
+    console.log(verdict, runs);`;
   const { RA_MONITOR: _, ...env } = process.env;
   const ran = spawnSync(process.execPath, ["--input-type=module", "--eval", code], { encoding: "utf8", env });
   assert.deepEqual([ran.stdout, ran.stderr], ["yes 5\n", "started\n"]);

@@ -10,7 +10,7 @@ import { FlakyRun, NotLinearizable, ReplicaRaised, ReportFailed, checkRandom, re
 import { PLANTED, saving } from "./network_replicas.js";
 import { OBSERVABLE } from "./planted.js";
 import { Asynchronous, Flaky, Stuttering, Unrepaired } from "./replayed.js";
-import { Counter, Register } from "./replicas.js";
+import { Counter, Register, Rga } from "./replicas.js";
 
 const TIES = OBSERVABLE["ties are broken by arrival"].register;
 const urlOf = (file) => JSON.stringify(new URL(file, import.meta.url).href);
@@ -54,6 +54,15 @@ const runSource = (source, imports) =>
     return spawnSync(process.execPath, ["--test-reporter=tap", path], { encoding: "utf8", env });
   });
 
+const STORED_BY_PYTHON = JSON.stringify({
+  version: 1, seed: "2-3", kind: "rga", replicas: ["a", "b"],
+  profile: { delivery: "causal", duplicates: false, late_states: false, restarts: false },
+  steps: [
+    ["update", 0, 1, "insert_after", [null, 1]], ["update", 0, 2, "insert_after", [null, 128]],
+    ["deliver", 1, 1, "", []], ["read", 0, 0, "", []], ["read", 1, 0, "", []],
+  ],
+  cause: ["no"], history: "",
+});
 const historyOf = (failed) => readFileSync(failed.history, "utf8");
 
 test("a seed with its version runs the same plan", async () => {
@@ -90,8 +99,15 @@ test("a failure is stored and fails again", async () => {
   assert.equal(stored.history, historyOf(failed));
   const again = await replay(TIES, failed.steps).catch((error) => error);
   assert.ok(again instanceof NotLinearizable, again);
-  assert.ok(again.message.includes(`the stored run of seed ${stored.seed} still fails`));
+  assert.ok(again.message.startsWith(`the stored run of seed ${stored.seed} still fails: '`));
   assert.equal(again.operation, failed.operation);
+  // The Python client writes such a file.
+  await inFolder(async (folder) => {
+    const path = join(folder, "failure.json");
+    writeFileSync(path, STORED_BY_PYTHON);
+    assert.equal(await replay(Rga, path), 5);
+    await assert.rejects(replay(OBSERVABLE["children stand in rising order"].rga, path), /seed 2-3 still fails: 'a'/);
+  });
 });
 
 test("a class that was repaired passes the stored run", async () => {
