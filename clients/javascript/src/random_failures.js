@@ -24,7 +24,7 @@ export function createError(setting, small, { seed, summary, failure, stored }) 
   const [first, run] = stored === undefined ? ["", `${summary}; `] : [`${summary}: `, ""];
   const parts = [
     ...(faults === "" ? [] : [`at work: ${faults}`]),
-    `${run}the history is ${history}, and the steps for replay are ${path}:\n`,
+    `${run}the history is ${history}, the steps are ${path}:\n`,
     indented(header(small.text)),
     report.formatCommands(small.replies, { most: SHOWN_LINES }),
   ];

@@ -103,6 +103,17 @@ test("clear removes what the replica shows", async () => {
   ]);
 });
 
+test("clear removes what won by its stamp, and not what came last", async () => {
+  const recorder = new Recorder("lwwset", ["a", "b"]);
+  await recorder.remove("b", "x", { stamp: 1, message: 1 });
+  await recorder.add("a", "x", { stamp: 5 });
+  await recorder.deliver("a", 1);
+  await recorder.clear("a", { stamps: [6] });
+  await recorder.read("a", []);
+  await recorder.close();
+  assert.ok(commands(recorder).includes("a remove 1 @6"));
+});
+
 test("clear of another kind or with too few stamps is rejected", async () => {
   const recorder = new Recorder("counter", ["a"]);
   const unknown = /clear is not an operation of the kind counter: it is one of sets/;

@@ -274,8 +274,20 @@ test("a run that does not fail again is flaky", async () => {
 });
 
 test("a failed run is run twice more before it is shrunk", async () => {
-  Flaky.left = 2;
-  await assert.rejects(checkRandom(Flaky, "counter", { seeds: [0] }), FlakyRun);
+  let made = 0;
+  class FailsTwice extends Counter {
+    constructor(name) {
+      super();
+      made += name === "a" ? 1 : 0;
+    }
+
+    read() {
+      // The first replica is made to look for its methods.
+      return made === 2 || made === 3 ? 1000 : this.number;
+    }
+  }
+  await assert.rejects(checkRandom(FailsTwice, "counter", { seeds: [0] }), FlakyRun);
+  assert.equal(made, 4);
   Flaky.left = Infinity;
   await assert.rejects(checkRandom(Flaky, "counter"), NotLinearizable);
 });

@@ -21,7 +21,7 @@ function executable(steps) {
   const delivered = new Set();
   return steps.filter(({ action, replica, number }) => {
     if (action === "merge") return replica !== number;
-    if (action === "read") return true;
+    if (action !== "update" && action !== "deliver") return true;
     const isNew = !delivered.has(`${replica} ${number}`);
     delivered.add(`${replica} ${number}`);
     return isNew;
@@ -78,6 +78,29 @@ test("a half, a quarter and a single step are removed", async () => {
 test("an update is removed with its deliveries", async () => {
   const steps = [update("p", 1), read("a"), deliver("q", 1, 1), read("b", 1), deliver("r", 1, 2), read("c", 2)];
   assert.equal(await smallest(steps, failsWith("abc", "pqr")), "abc");
+});
+
+test("a message arrives early only if that is needed", async () => {
+  const steps = [update("a", 1), update("b", 2), deliver("c", 2, 1), deliver("d", 1, 1)];
+  assert.equal(await smallest(steps, failsWith("abcd")), "abdc");
+  const failsOutOfOrder = (candidate) => {
+    const letters = lettersOf(candidate);
+    return [..."abcd"].every((it) => letters.includes(it)) && letters.indexOf("c") < letters.indexOf("d") ? NO : null;
+  };
+  assert.equal(await smallest(steps, failsOutOfOrder), "abcd");
+});
+
+test("a state is merged late only if that is needed", async () => {
+  const late = [makeStep("snapshot", 0, 1, "b"), read("c"), makeStep("merge_snapshot", 1, 1, "d")];
+  const steps = [update("a", 1), ...late];
+  const failsWithAState = (candidate) => {
+    const actions = candidate.map((it) => it.action);
+    const isLate = actions.includes("snapshot") && actions.includes("merge_snapshot");
+    const letters = lettersOf(candidate);
+    return (actions.includes("merge") || isLate) && letters.includes("a") && letters.includes("c") ? NO : null;
+  };
+  assert.equal(await smallest(steps, failsWithAState), "ac");
+  assert.equal(await smallest(steps, failsWith("abcd")), "abcd");
 });
 
 test("two steps are removed together", async () => {
