@@ -39,6 +39,8 @@ export type Key =
   | { readonly [key: string]: unknown };
 /** A value, or a function that returns it for the result of the act. */
 export type Told<Value, Done = any> = Value | ((done: Done) => Value);
+/** A seed of a random run: its number, or a text such as "2-17" with the version of the planner. */
+export type Seed = number | string;
 
 /** The program could not be started, or exited before its input ended. The message has its standard error. */
 export class MonitorExited extends Error {}
@@ -57,6 +59,8 @@ export class ReportFailed extends Error {
   reply: string;
   /** The file with the history up to this report, which `ra_monitor check` reads. */
   history: string;
+  /** The file with the steps of a random run, which `replay` runs again. */
+  steps: string | undefined;
 }
 
 /** The program found a violation. */
@@ -76,6 +80,9 @@ export class ReplicaRaised extends ReportFailed {
   /** The error that the replica threw. */
   cause: unknown;
 }
+
+/** A random run failed, and the same steps did not fail in the same way again: the class is not deterministic. */
+export class FlakyRun extends ReportFailed {}
 
 /** The options of a monitor. */
 export interface MonitorOptions {
@@ -151,6 +158,8 @@ export interface RecorderOptions extends MonitorOptions {
   history?: string;
   /** The result of a register's read before the first write. The default is null, and then undefined counts too. */
   nothing?: unknown;
+  /** Whether the process ends with status 3 if the recorder is neither closed nor stopped. The default is true. */
+  mustClose?: boolean;
 }
 
 /** The options of a step. */
@@ -163,6 +172,12 @@ export interface Act<Done> {
 export interface Sent<Done> extends Act<Done> {
   /** The key that the update's deliveries name. */
   message?: Told<Key, Done>;
+}
+
+/** The options of a counter's update. */
+export interface Counted<Done> extends Sent<Done> {
+  /** An amount from 1 to 256, which is reported as that number of operations. The default is 1. */
+  by?: number;
 }
 
 /** The updates that had been delivered to a replica at one moment, as a count for each replica. */
@@ -178,11 +193,21 @@ export interface Seen {
  * one step: it runs the act and reports it before the act of another call runs, also if the act is asynchronous. The
  * first report that fails rejects with `NotLinearizable` or `Refused` as soon as its reply has arrived, and so does
  * each later call. With a `window` of 1 the call itself rejects.
+ *
+ * A recorder that is neither closed nor stopped warns, and lets the process end with status 3, since its last reports
+ * were not checked. With `mustClose: false` it does neither.
  */
 export class Recorder {
   constructor(kind: Kind, replicas: readonly Key[], options?: RecorderOptions);
-  /** Reports an update, and returns the result of the act. */
-  update<Done>(replica: Key, operation: Told<Operation, Done>, options?: Sent<Done>): Promise<Done>;
+  /**
+   * Reports an update, and returns the result of the act. A list of operations is a composition: it is reported as
+   * these operations in their order, with one message.
+   */
+  update<Done>(
+    replica: Key,
+    operation: Told<Operation | readonly Operation[], Done>,
+    options?: Sent<Done>,
+  ): Promise<Done>;
   /** Reports that the replica applies the message of this key. A repeated delivery runs the act alone. */
   deliver<Done>(replica: Key, message: Told<Key, Done>, options?: Act<Done>): Promise<Done>;
   /** Reports that the replica merges a state, given by its messages or by what another replica had `seen`. */
@@ -197,10 +222,10 @@ export class Recorder {
   read<Value>(replica: Key, value: Value | (() => Value | Promise<Value>)): Promise<Value>;
   /** Returns the updates that were delivered to the replica so far, for a `merge` of its current state. */
   seen(replica: Key): Seen;
-  /** Reports a counter's increment by one. */
-  increment<Done>(replica: Key, options?: Sent<Done>): Promise<Done>;
-  /** Reports a counter's decrement by one. */
-  decrement<Done>(replica: Key, options?: Sent<Done>): Promise<Done>;
+  /** Reports a counter's increment by one, or by an amount from 1 to 256, as that number of increments. */
+  increment<Done>(replica: Key, options?: Counted<Done>): Promise<Done>;
+  /** Reports a counter's decrement by one, or by an amount from 1 to 256, as that number of decrements. */
+  decrement<Done>(replica: Key, options?: Counted<Done>): Promise<Done>;
   /** Reports a register's write of this value. */
   write<Done>(replica: Key, value: unknown, stamp: Told<Stamp, Done>, options?: Sent<Done>): Promise<Done>;
   /** Reports a set's addition, with the `stamp` of an LWW set or the `identifier` of an OR-Set. */
@@ -214,6 +239,17 @@ export class Recorder {
     replica: Key,
     element: Key,
     options?: Sent<Done> & { stamp?: Told<Stamp, Done>; identifiers?: Told<Iterable<Key>, Done> },
+  ): Promise<Done>;
+  /**
+   * Reports that a set removes all that the replica shows by the reports, as a removal of each element. Those of an LWW
+   * set need `stamps`: a mapping from elements to stamps, or the stamps in the order in which the elements were first
+   * used.
+   */
+  clear<Done>(
+    replica: Key,
+    options?: Sent<Done> & {
+      stamps?: Told<Iterable<Stamp> | ReadonlyMap<Key, Stamp> | { readonly [element: string]: Stamp }, Done>;
+    },
   ): Promise<Done>;
   /** Reports a list's insertion directly behind the anchor, or at the start if that is null. */
   insertAfter<Done>(
@@ -233,29 +269,85 @@ export class Recorder {
   history(): string;
 }
 
+/** A class of replicas, or a function that creates the replica of a name. */
+export type MakeReplica = (new (name: any) => object) | ((name: any) => object);
+
+/** What the transport of a type may do, and other options of random runs. */
+export interface RandomOptions {
+  /**
+   * `causal`, the default, if the transport delivers in causal order, or `any` if the type buffers the messages that
+   * depend on a missing one.
+   */
+  delivery?: "causal" | "any";
+  /** Whether a message may arrive again. The default is false. */
+  duplicates?: boolean;
+  /** Whether a state may be merged later than it was taken. By default, a type that merges promises it. */
+  lateStates?: boolean;
+  /** Whether a replica restarts from what it saved. By default, one with `save()` and `load(saved)` does. */
+  restarts?: boolean;
+  /** The relative frequency of each method, such as `{ remove: 3 }`. */
+  weights?: { readonly [method: string]: number };
+  /** The path of the program. The default is that of RA_MONITOR, else the repository's own `ra_monitor`. */
+  program?: string;
+  /** The file for the steps of a failure. By default it is a temporary one beside the history. */
+  failure?: string;
+}
+
+/** The settings of random runs, with their options. */
+export interface RandomSettings extends RandomOptions {
+  /**
+   * The names of the replicas in the order in which the type breaks ties, lowest first, or their number. The default is
+   * 3.
+   */
+  replicas?: number | readonly Key[];
+  /** The number of operations of a run. The default is 30. */
+  operations?: number;
+  /** The seeds, or their number, counted from 0. The default is 100. */
+  seeds?: number | Iterable<Seed>;
+}
+
+/** The runs that passed. */
+export class Runs {
+  /** The number of runs. */
+  readonly runs: number;
+  /** The operations of the kind that the class does not have, so that they were not tried. */
+  readonly unused: readonly string[];
+  /** Returns the number of runs. */
+  valueOf(): number;
+}
+
 /**
- * Tests replicas in random runs, one for each seed, and returns the number of runs.
+ * Tests replicas in random runs, one for each seed, and returns the runs that passed.
  *
- * `makeReplica(name)` creates a replica. `replicas` are their names in the order in which the type breaks ties, lowest
- * first, or their number. `operations` is the number of operations of a run. `seeds` are the seeds, or their number,
- * counted from 0. A replica has the methods of its kind (`increment` and `decrement`, `write(value)`, `add(element)`
- * and `remove(element)`, or `insertAfter(anchor, element)` and `remove(element)`), `read()`, and `receive(message)`.
- * They may be asynchronous.
+ * A replica has the methods of its kind (`increment` and `decrement`, `write(value)`, `add(element)` and
+ * `remove(element)`, or `insertAfter(anchor, element)` and `remove(element)`), `read()`, and `receive(message)`. They
+ * may be asynchronous. A type that only grows has no `decrement` or `remove`.
  *
  * An update returns the message that the other replicas receive. The message has the `stamp` of a write, of an LWW
  * set's update or of an insertion, and the `identifier` or `identifiers` of an OR-Set's update if the type exposes
  * them. A type whose states are merged has `state()` and `merge(state)` instead of `receive`. If a replica has
- * `fork(name)`, which returns a copy of it under this name, some replicas join during the run.
+ * `fork(name)`, which returns a copy of it under this name, some replicas join during the run. If the methods of a
+ * counter take an amount `by`, amounts up to 256 are tried.
  *
- * Rejects with `NotLinearizable` if a run has a violation, with `Refused` if the program rejected a report, and with
- * `ReplicaRaised` if a replica threw an error. The failed run is shrunk first. The message has the seed and the small
- * history, and `history` is its file.
+ * Rejects with `NotLinearizable` if a run has a violation, with `Refused` if the program rejected a report, with
+ * `ReplicaRaised` if a replica threw an error, and with `FlakyRun` if the same steps did not fail in the same way
+ * again. The failed run is shrunk first. The message has the seed, the small history, the faults of the network that
+ * are at work in it, and a test of its own. `history` is the file with the history, and `steps` the one for `replay`.
  */
+export function checkRandom(makeReplica: MakeReplica, kind: Kind, settings?: RandomSettings): Promise<Runs>;
+/** Tests replicas in random runs, with the numbers of replicas, operations and seeds as parameters of their own. */
 export function checkRandom(
-  makeReplica: (name: any) => any,
+  makeReplica: MakeReplica,
   kind: Kind,
   replicas?: number | readonly Key[],
   operations?: number,
-  seeds?: number | Iterable<number>,
-  options?: { program?: string },
-): Promise<number>;
+  seeds?: number | Iterable<Seed>,
+  options?: RandomOptions,
+): Promise<Runs>;
+
+/**
+ * Runs the steps of a stored failure again, and returns their number if they pass. Steps that the class cannot execute
+ * any more are left out. Rejects with the error of `checkRandom` if the run still fails, and with `RangeError` if the
+ * file is no stored failure. Both clients write and read the same files.
+ */
+export function replay(makeReplica: MakeReplica, path: string, options?: { program?: string }): Promise<number>;

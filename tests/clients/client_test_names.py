@@ -12,18 +12,6 @@ from pathlib import Path
 
 CLIENTS = Path(__file__).resolve().parents[2] / "clients"
 
-# Tests of Python that JavaScript has to get.
-FOLLOWING = {
-    "operations": [
-        "a_stamp_of_an_or_set_is_rejected",
-        "identifiers_of_another_kind_are_rejected",
-        "a_message_without_a_stamp_is_named",
-    ],
-    "types": [
-        "the_package_and_a_use_of_it_have_strict_types",
-        "a_wrong_use_is_rejected",
-    ],
-}
 # Tests that one language alone can have, each with the reason.
 PYTHON_ALONE = {
     ("recorder", "a_value_that_is_not_hashable_is_rejected"): "in JavaScript anything can be the key of a Map",
@@ -34,7 +22,6 @@ PYTHON_ALONE = {
     ("pytest_plugin", "the_options_change_the_numbers_of_runs_and_operations"): "pytest is for Python",
     ("pytest_plugin", "the_files_of_a_failure_are_kept"): "pytest is for Python",
     ("operations", "an_act_that_returns_a_coroutine_is_rejected"): "JavaScript awaits what an act returns",
-    **{(file, name): "issue 59: the JavaScript client follows" for file, names in FOLLOWING.items() for name in names},
 }
 JAVASCRIPT_ALONE = {
     ("recorder", "an_asynchronous_act_is_one_step_with_its_report"): "Python's acts are not awaited",
