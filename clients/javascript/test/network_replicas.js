@@ -21,7 +21,7 @@ export function buffered(Base) {
     }
 
     receive(message) {
-      if (!this.hasSeen(message) && !this.buffer.includes(message)) this.keep(message);
+      if (!hasSeen(this.seen, message) && !this.buffer.includes(message)) this.keep(message);
       this.flush();
     }
 
@@ -30,25 +30,24 @@ export function buffered(Base) {
     }
 
     flush() {
-      const ready = this.buffer.filter((it) => this.isReady(it));
+      const ready = this.buffer.filter((it) => isReady(this.seen, it));
       for (const message of ready) {
         this.buffer = this.buffer.filter((it) => it !== message);
-        if (this.hasSeen(message)) continue;
+        if (hasSeen(this.seen, message)) continue;
         this.seen[message.from] = message.number;
         super.receive(message);
       }
       if (ready.length > 0) this.flush();
     }
-
-    hasSeen({ from, number }) {
-      return number <= (this.seen[from] ?? 0);
-    }
-
-    isReady({ needs }) {
-      return Object.entries(needs).every(([name, number]) => (this.seen[name] ?? 0) >= number);
-    }
   }
+  return sending(Buffered, Base);
+}
 
+const hasSeen = (seen, { from, number }) => number <= (seen[from] ?? 0);
+const isReady = (seen, { needs }) => Object.entries(needs).every(([name, number]) => (seen[name] ?? 0) >= number);
+
+/** Lets each update return its message with what it needs. */
+function sending(Buffered, Base) {
   for (const method of UPDATES.filter((it) => it in Base.prototype)) {
     Buffered.prototype[method] = function update(...parameters) {
       return this.send(Base.prototype[method].apply(this, parameters));
