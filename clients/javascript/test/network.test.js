@@ -17,7 +17,8 @@ const FOUND_WITHIN = 200;
 const SENTENCES = {
   keeps_one_message: /at work: message \d+ arrived before message \d+, on which it depends/,
   counts_duplicates: /at work: message 1 arrived twice\n/,
-  undoes_newer_entries: /at work: a state of '[abc]' taken at step \d+ was merged at step \d+\n/,
+  undoes_newer_entries:
+    /at work: a state of '[abc]' taken at step (\d+) was merged at step \d+\n.* the state of '[abc]' of step \1\n/s,
   forgets_its_clock: /at work: '[abc]' restarted from its state of step \d+\n/,
   overflows_at_seven_bits: /reads -?12[89]: /,
   "overflows_at_seven_bits with amounts": /reads -?\d+: /,
