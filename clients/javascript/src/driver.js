@@ -235,12 +235,25 @@ export class Driver {
 }
 
 /** Returns the operation of an update, with the stamp or the identifiers of its message. */
-function operationOf(kind, step, { stamp, identifier, identifiers }) {
+function operationOf(kind, step, message) {
   const [first, second] = step.arguments;
-  if (kind === "register") return operations.write(first, stamp);
-  if (step.method === "insertAfter") return operations.insertAfter(first, second, stamp);
-  if (step.method === "add") return operations.add(first, { stamp, identifier });
-  return operations.remove(first, { stamp, identifiers });
+  if (kind === "register") return operations.write(first, stampOf(step, message));
+  if (step.method === "insertAfter") return operations.insertAfter(first, second, stampOf(step, message));
+  if (kind === "orset" && step.method === "add") return operations.add(first, { identifier: message.identifier });
+  if (kind === "orset") return operations.remove(first, { identifiers: message.identifiers });
+  if (kind === "rga") return operations.remove(first);
+  const update = step.method === "add" ? operations.add : operations.remove;
+  return update(first, { stamp: stampOf(step, message) });
+}
+
+/** Returns the stamp of an update's message, which has to have one. */
+function stampOf(step, message) {
+  if (message.stamp !== undefined) return message.stamp;
+  const call = `${step.method}(${step.arguments.map((it) => inspect(it)).join(", ")})`;
+  throw new NotRepresentable(
+    `${call} returned a message without a stamp, ${inspect(message)}: expected a property \`stamp\` that has the ` +
+      "clock, or the clock and the replica's name",
+  );
 }
 
 /**

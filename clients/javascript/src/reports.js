@@ -104,10 +104,20 @@ export class Reports {
   issue(replica, operation, message) {
     this.#requireNew(message);
     if (this.#observed === null) {
+      if (operation?.identifiers !== undefined) {
+        const given = inspect(operation.identifiers);
+        throw new NotRepresentable(`the kind ${this.#translator.kind} has no identifiers: got ${given}`);
+      }
       return this.issueFields(replica, this.#translator.operationFields(replica, operation), message);
     }
     this.#translator.requireOperation(operation?.word);
-    const { value: element, word } = operation;
+    const { value: element, word, stamp } = operation;
+    if (stamp !== undefined) {
+      const named = word === "add" ? "identifier" : "identifiers";
+      throw new NotRepresentable(
+        `an OR-Set has no stamps, and ${inspect(stamp)} is one: pass \`${named}\`, or nothing`,
+      );
+    }
     const identifiers = this.#identifierNumbers(replica, operation);
     const fields = this.#translator.operationFields(replica, { word, value: element, identifiers });
     this.#observed.issue(replica, this.#labels, { element, identifiers, isAddition: word === "add" });

@@ -25,6 +25,36 @@ async function captureStderr(act) {
   return written;
 }
 
+/** Returns messages without their stamps. */
+class WithoutStamp extends LwwSet {
+  add(element) {
+    return { ...super.add(element), stamp: undefined };
+  }
+}
+
+test("a stamp of an OR-Set is rejected", async () => {
+  for (const [call, named] of [["add", "identifier"], ["remove", "identifiers"]]) {
+    const recorder = new Recorder("orset", ["a"]);
+    const message = new RegExp(`an OR-Set has no stamps, and 5 is one: pass \`${named}\`, or nothing`);
+    await assert.rejects(recorder[call]("a", "x", { stamp: 5 }), isNotRepresentable(message));
+    await recorder.stop();
+  }
+});
+
+test("identifiers of another kind are rejected", async () => {
+  for (const [call, named] of [["add", "identifier"], ["remove", "identifiers"]]) {
+    const recorder = new Recorder("lwwset", ["a"]);
+    const isRejected = isNotRepresentable(/the kind lwwset has no identifiers: got/);
+    await assert.rejects(recorder[call]("a", "x", { stamp: 5, [named]: [7] }), isRejected);
+    await recorder.stop();
+  }
+});
+
+test("a message without a stamp is named", async () => {
+  const message = /add\(.*\) returned a message without a stamp, .*: expected a property `stamp`/s;
+  await assert.rejects(checkRandom(WithoutStamp, "lwwset"), isNotRepresentable(message));
+});
+
 test("an amount is reported as that number of increments", async () => {
   const recorder = new Recorder("counter", ["a", "b"]);
   assert.equal(await recorder.increment("a", { by: 3, act: () => "act", message: "m" }), "act");
