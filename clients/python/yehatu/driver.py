@@ -267,8 +267,9 @@ def operation_of(kind: str, step: Step, message: Any) -> Operation:
         return operations.remove(element, identifiers=_field_of(message, "identifiers"))
     if kind == "rga":
         return operations.remove(element)
-    update = operations.add if step.method == "add" else operations.remove
-    return update(element, _stamp_of(step, message))
+    if step.method == "add":
+        return operations.add(element, _stamp_of(step, message))
+    return operations.remove(element, _stamp_of(step, message))
 
 
 def _stamp_of(step: Step, message: Any) -> Any:
