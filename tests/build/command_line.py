@@ -193,8 +193,9 @@ def the_help_has_each_word_of_the_format(repository):
     for word in (*refusals, *replies, "order", "update", "query"):
         require(re.search(rf"(^|[ `]){word}([ `]|$)", pages["replies"], re.MULTILINE), word)
     text = (reference / "text_format.md").read_text()
-    table = text[text.index("| Body |"):text.index("Writes of a register")]
+    table = text[text.index("| Body |"):].split("\n\n")[0]
     bodies = set(re.findall(r"^\| `([a-z]+)`", table, re.MULTILINE))
+    require(bodies == {"inc", "read", "write", "add", "remove", "after"}, bodies)
     for word in (*bodies, *KINDS, "verdict", "join", "got", "dec"):
         require(re.search(rf"\b{word}\b", pages["format"]), word)
 

@@ -1,4 +1,4 @@
-"""Shows when `./ra_monitor` has the program built, and when not: after each thing that may change what it stands on."""
+"""Shows when `./ra_monitor` has the program built, and when not: after each change of what it depends on."""
 import os
 import shutil
 import subprocess

@@ -3,7 +3,7 @@
 The first word after an opening fence is the block's language. What stands behind it says what the check does with it:
 
     console                  lines that begin with `$ ` (continued by `> `) are run, and the others are their output;
-                             `[...]` stands for any part of a line, or alone for any lines
+                             `[...]` matches any part of a line, or alone for any lines
     history                  a history with a reply behind each line, separated by two spaces or more
     LANGUAGE run             the block is run; `# prints: TEXT` in its last line (or `// prints:`) is its output. In
                              `sh` each line is a command, whose status is 0, or what `# exit status N` says

@@ -12,7 +12,7 @@ WIDEST, CUT = 100, 98
 HEAD = 16
 # The most bytes of a command's line, elements of a list, labels above a clock, and remedies that are printed.
 MOST_BYTES_OF_A_LINE, MOST_ELEMENTS, MOST_ABOVE, MOST_REMEDIES = 72, 8, 3, 5
-# Of a label's line at least so many bytes are printed, or none, where the words after it leave little room.
+# Of a label's line at least this number of bytes is printed, or none, where the words after it leave little room.
 LEAST_BYTES_OF_A_LINE = 8
 # The most replicas that have a line each: at a violation, and of a pass. And the most rejected lines.
 MOST_SEEN, MOST_LACKING, MOST_REJECTED = 8, 10, 10
@@ -140,7 +140,9 @@ def how_seen(case, name, label):
     if case.maker(label) == name:
         return "the replica issued the label itself"
     is_delivered = case.arrival(name, label) is not None
-    return "the label was delivered to the replica before" if is_delivered else "the replica had the label when it joined"
+    if is_delivered:
+        return "the label was delivered to the replica before"
+    return "the replica had the label when it joined"
 
 
 def taken_by(case, words, sign):

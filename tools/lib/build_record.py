@@ -1,7 +1,7 @@
 """What is built, and whether it is still what its sources say.
 
 Beside a built program lie two files. NAME.built tells what it was made from: a sum over the sources of all crates that
-it stands on, their lines of crates.txt, HANDLES and the kit; and the program's own sum. NAME.fingerprint has what
+it depends on, their lines of crates.txt, HANDLES and the kit; and the program's own sum. NAME.fingerprint has what
 tools/lib/fingerprint printed when these sums were last compared: where that is unchanged, so are they, and nothing has
 to be read.
 """
