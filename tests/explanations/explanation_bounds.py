@@ -1,6 +1,6 @@
 """Histories at the bounds of what an explanation shows: one below each of them, at it, and above it.
 
-The bounds are the constants of ra_explain_common, ra_explain_syntax_errors, ra_explain_text and ra_explain_diagram; those of
+The bounds are the constants of ra_explain, ra_explain_syntax_errors, ra_explain_text and ra_explain_diagram; those of
 a text with a fault are in explanation_faults.py. The histories are small, so that the model (tests/support/model.py)
 explains each of them.
 """

@@ -18,7 +18,7 @@ use Rattle.ra_monitor.specs.declared.setup.Setup.{Setup}
 use Rattle.ra_monitor.specs.Monitor.{MonitorEntry, records_of, records_before_fault_in, fault_in, IsLegalLog}
 use Rattle.ra_witness.specs.Labels.{update_in}
 use Rattle.ra_explain.specs.Places.{is_operation, places_in}
-use Rattle.ra_explain.specs.Seen.{IsFine, IsKnown, update_by, update_at}
+use Rattle.ra_explain.specs.ReplicaState.{IsFine, IsKnown, update_by, update_at}
 use Rattle.ra_explain.proofs.Commands.{IsAmong, operations_in, labels_stand, command_found}
 use Rattle.ra_explain.proofs.Faults.{had_before}
 

@@ -3,7 +3,8 @@ pub mod Faults
 pub mod Labels
 pub mod Steps
 pub mod TheoremIndex
-pub mod RightAnswers
+pub mod ExpectedAnswers
 pub mod Retold
 pub mod Ranges
 pub mod LastDeliveries
+pub mod Reported

@@ -25,7 +25,7 @@ use Rattle.ra_witness.specs.declared.part_ref.Half.TheVariants.{QueryHalf}
 use Rattle.ra_witness.specs.declared.part_ref.PartRef.{PartRef}
 use Rattle.ra_witness.proofs.TheoremIndex.{delivered_state_in_range}
 use Rattle.ra_explain.specs.Places.{places_in}
-use Rattle.ra_explain.specs.Seen.{IsKnown, update_at, updates_among, after_one}
+use Rattle.ra_explain.specs.ReplicaState.{IsKnown, update_at, updates_among, after_one}
 use Rattle.ra_explain.proofs.Faults.{none_is}
 use Rattle.ra_explain.proofs.Labels.{parts_known}
 

@@ -1,6 +1,10 @@
 pub mod Places
+pub mod Origin
 pub mod LabelFilter
 pub mod Changes
-pub mod Seen
-pub mod Right
+pub mod ReplicaState
+pub mod Expected
+pub mod Undelivered
+pub mod Rejected
+pub mod Explanation
 pub mod LastDeliveries

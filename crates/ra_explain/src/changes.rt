@@ -191,8 +191,8 @@ fn tell_with(
     Ok(is_ok(reply))
 }
 
-// Copies the command. A function of its own, so that proofs of its callers need not unfold the command.
-fn copy(command: &Command) -> Result<Command, NoMemory>
+/// Returns a copy of the command. A function of its own, so that proofs of its callers need not unfold the command.
+pub fn copy(command: &Command) -> Result<Command, NoMemory>
     ensures { IfOk result (λ copy. copy ≡ command.now) }
 {
     Ok(command.clone()?)

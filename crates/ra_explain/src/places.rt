@@ -73,7 +73,7 @@ impl Places {
         ensures { MatchOption result (entry_at log.now self.now label ≡ None)
             (λ entry. entry_at log.now self.now label ≡ Some entry.now) }
     {
-        log.get(self.at(label)? as usize)
+        entry_at(log, self.at(label)?)
     }
 
     /// Returns the index of the label, from 0, or `None` if there is no such label.
@@ -83,6 +83,14 @@ impl Places {
     {
         self.places.get(label as usize).copied()
     }
+}
+
+/// Returns the entry at this index of the log, or `None` if there is none.
+pub fn entry_at(log: &[Entry<Command, Reply>], place: u32) -> Option<&Entry<Command, Reply>>
+    ensures { MatchOption result (slice_get log.now place ≡ None)
+        (λ entry. slice_get log.now place ≡ Some entry.now) }
+{
+    log.get(place as usize)
 }
 
 // Returns `true` if the command is an operation.

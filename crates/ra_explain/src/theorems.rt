@@ -14,7 +14,7 @@ ghost use Rattle.ra_seqspec.specs.Pairs.{distinct_elements};
 ghost use Rattle.ra_monitor.specs.declared.setup.Setup.{Setup};
 ghost use Rattle.ra_monitor.specs.Monitor.{MonitorEntry, records_of, fault_in, IsLegalLog};
 ghost use Rattle.ra_explain.specs.Places.{places_in, command_at};
-ghost use Rattle.ra_explain.specs.Right.{right_in};
+ghost use Rattle.ra_explain.specs.Expected.{expected_in};
 ghost use Rattle.ra_labels.specs.Answer.{refusal_of};
 ghost use Rattle.ra_labels.specs.HistorySoFar.{NextOperation, operate};
 ghost use Rattle.ra_explain.specs.declared.changes.Change.{Change};
@@ -35,18 +35,18 @@ pub fn fault_label_found()
         → command_at log (places_in log) fault.label ≡ Some (operate last) }
 {}
 
-/// Theorem: the right answer in a state is what the specification reads there. It is a counter's number, the value of
+/// Theorem: the expected answer in a state is what the specification reads there. It is a counter's number, the value of
 /// the last write, the elements of a set, the identifiers of an element, or the visible elements of a list.
 pub fn expected_result()
-    ensures counter { (number told : ℤ) → right_in (Number number) (op.Count told) ≡ Some (op.Count number) }
-    ensures register { (last told : Option ℕ) → right_in (Written last) (op.Last told) ≡ Some (op.Last last) }
-    ensures lww_set { (xs told : List ℕ) → right_in (Members xs) (op.LwwRead told) ≡ Some (op.LwwRead xs) }
+    ensures counter { (number told : ℤ) → expected_in (Number number) (op.Count told) ≡ Some (op.Count number) }
+    ensures register { (last told : Option ℕ) → expected_in (Written last) (op.Last told) ≡ Some (op.Last last) }
+    ensures lww_set { (xs told : List ℕ) → expected_in (Members xs) (op.LwwRead told) ≡ Some (op.LwwRead xs) }
     ensures identifiers { (pairs : List (ℕ × ℕ)) (x : ℕ) (told : List ℕ)
-        → right_in (Pairs pairs) (op.OrRemove x told) ≡ Some (op.OrRemove x (identifiers_of x pairs)) }
+        → expected_in (Pairs pairs) (op.OrRemove x told) ≡ Some (op.OrRemove x (identifiers_of x pairs)) }
     ensures or_set { (pairs : List (ℕ × ℕ)) (told : List ℕ)
-        → right_in (Pairs pairs) (op.OrRead told) ≡ Some (op.OrRead (distinct_elements pairs)) }
+        → expected_in (Pairs pairs) (op.OrRead told) ≡ Some (op.OrRead (distinct_elements pairs)) }
     ensures rga { (list : List (ℕ × Bool)) (told : List ℕ)
-        → right_in (Listed list) (op.RgaRead told) ≡ Some (op.RgaRead (shown list)) }
+        → expected_in (Listed list) (op.RgaRead told) ≡ Some (op.RgaRead (shown list)) }
 {}
 
 /// Theorem: with a change that helps, the label is accepted, and the records up to it have no fault.

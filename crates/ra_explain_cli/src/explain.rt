@@ -4,9 +4,10 @@ ghost use Rattle.ra_explain_cli.specs.Explained.{ExplainsText, EndsExplained, En
 
 use crate::asked::Form;
 use ra_cli_common::{Ending, stop};
+use ra_explain::{Explanation, Purpose};
 use ra_explain_diagram::{put_html, put_page, put_svg};
 use ra_explain_syntax_errors::Stop;
-use ra_explain_text::{Case, No, Purpose, Told, put_json, put_sequence};
+use ra_explain_text::{View, put_json, put_sequence};
 use ra_history_lines::Names;
 use ra_history_lines::reply::put_end;
 use ra_history_text::{CheckFault, Outcome, Session, check_session, status, write_out};
@@ -124,7 +125,7 @@ fn page_of(
 ) -> Result<Vec<u8>, NoMemory>
     ensures { IfOk result (λ page. IsPage form report.now page.items) }
 {
-    let body = body_of(alloc, form, session, report)?;
+    let body = body_of(alloc, form, session)?;
     let mut page = Vec::new(alloc);
     if form == Form::Page {
         put_end(&mut page, report.labels, report.fault)?;
@@ -133,55 +134,43 @@ fn page_of(
     Ok(page)
 }
 
-fn body_of(
-    alloc: Global,
-    form: Form,
-    session: Session,
-    report: &Report,
-) -> Result<Vec<u8>, NoMemory> {
+fn body_of(alloc: Global, form: Form, session: Session) -> Result<Vec<u8>, NoMemory> {
     let mut body = Vec::new(alloc);
     if let Some((monitor, names)) = session.into_history() {
-        put_history(&mut body, form, monitor, &names, report)?;
+        put_history(&mut body, form, monitor, &names)?;
     }
     Ok(body)
 }
 
-// Takes from the monitor what is needed and drops all of it but the log, before changed histories are tried.
+// Explains the monitor's history. The sequence alone is written from the monitor itself.
 fn put_history(
     body: &mut Vec<u8>,
     form: Form,
     monitor: Monitor,
     names: &Names,
-    report: &Report,
 ) -> Result<(), NoMemory> {
-    if form == Form::Sequence {
+    let Some(purpose) = purpose_of(form) else {
         return put_sequence(body, &monitor);
-    }
-    let told = Told::by(*body.allocator(), monitor, purpose_of(form))?;
-    put_case(body, form, &Case::of(&told, names), report)
-}
-
-fn purpose_of(form: Form) -> Purpose {
+    };
+    let explanation = Explanation::of(*body.allocator(), monitor, purpose)?;
+    let view = View {
+        explanation: &explanation,
+        names,
+    };
     match form {
-        Form::Page | Form::Html | Form::Sequence => Purpose::Words,
-        Form::Json => Purpose::Object,
-        Form::Svg => Purpose::Drawing,
-    }
-}
-
-fn put_case(
-    body: &mut Vec<u8>,
-    form: Form,
-    case: &Case<'_>,
-    report: &Report,
-) -> Result<(), NoMemory> {
-    let found = No::of(*body.allocator(), case)?;
-    let no = found.as_ref();
-    match form {
-        Form::Page => put_page(body, case, report, no),
-        Form::Json => put_json(body, case, report, no),
-        Form::Svg => put_svg(body, case, report, no),
-        Form::Html => put_html(body, case, report, no),
+        Form::Page => put_page(body, &view),
+        Form::Json => put_json(body, &view),
+        Form::Svg => put_svg(body, &view),
+        Form::Html => put_html(body, &view),
         Form::Sequence => Ok(()),
+    }
+}
+
+fn purpose_of(form: Form) -> Option<Purpose> {
+    match form {
+        Form::Page | Form::Html => Some(Purpose::Text),
+        Form::Json => Some(Purpose::Object),
+        Form::Svg => Some(Purpose::Drawing),
+        Form::Sequence => None,
     }
 }

@@ -1,6 +1,6 @@
 //! The choice of the log's entries that a picture shows.
-use ra_explain::{Change, LabelsWith, labels_with};
-use ra_explain_text::{Case, No, delivery_of, elements_between, needed_by};
+use ra_explain::{Change, Difference, LabelsWith, Violation, labels_with, needed_by, operation_in};
+use ra_explain_text::{View, shown};
 use ra_journal::Entry;
 use ra_labels::{Command, NoMemory, Op, Reply};
 use std::alloc::Global;
@@ -17,33 +17,37 @@ const MOST_NAMING: u32 = 2;
 /// Returns the ascending indices of the entries to draw up to the violating label. Of a short history they are all
 /// accepted ones. Otherwise they are, as far as there is room: the helpful changes, what the label's update depends on,
 /// the updates of elements at which its answer differs, and the latest deliveries and labels of its replica.
-pub fn places_of(alloc: Global, case: &Case<'_>, no: &No<'_>) -> Result<Vec<u32>, NoMemory> {
+pub fn places_of(
+    alloc: Global,
+    view: &View<'_>,
+    violation: &Violation,
+) -> Result<Vec<u32>, NoMemory> {
     let mut places = Vec::new(alloc);
-    places.push(no.place)?;
-    if (no.place as usize) < MOST_ENTRIES {
-        for at in 0..no.place {
-            add_entry(&mut places, case, at, MOST_ENTRIES)?;
+    places.push(violation.place)?;
+    if (violation.place as usize) < MOST_ENTRIES {
+        for at in 0..violation.place {
+            add_entry(&mut places, view, at, MOST_ENTRIES)?;
         }
     } else {
-        add_changed(&mut places, case, no)?;
-        add_needed(&mut places, case, no.op)?;
-        add_differing(&mut places, case, no)?;
-        add_latest(&mut places, case, no)?;
+        add_changed(&mut places, view, violation)?;
+        add_needed(&mut places, view, violation)?;
+        add_differing(&mut places, view, violation)?;
+        add_latest(&mut places, view, violation)?;
     }
     places.sort_unstable();
     Ok(places)
 }
 
 // Adds the entry at this index if there is room and it was accepted.
-fn add_entry(places: &mut Vec<u32>, case: &Case<'_>, at: u32, most: usize) -> Result<(), NoMemory> {
-    if places.len() < most && !places.contains(&at) && is_drawn(case, at) {
+fn add_entry(places: &mut Vec<u32>, view: &View<'_>, at: u32, most: usize) -> Result<(), NoMemory> {
+    if places.len() < most && !places.contains(&at) && is_drawn(view, at) {
         places.push(at)?;
     }
     Ok(())
 }
 
-fn is_drawn(case: &Case<'_>, at: u32) -> bool {
-    case.entry(at).is_some_and(is_accepted)
+fn is_drawn(view: &View<'_>, at: u32) -> bool {
+    view.explanation.entry(at).is_some_and(is_accepted)
 }
 
 fn is_accepted(entry: &Entry<Command, Reply>) -> bool {
@@ -54,12 +58,16 @@ fn is_accepted(entry: &Entry<Command, Reply>) -> bool {
 }
 
 // Adds the entries that the shown changes mention.
-fn add_changed(places: &mut Vec<u32>, case: &Case<'_>, no: &No<'_>) -> Result<(), NoMemory> {
-    for change in no.help.told() {
+fn add_changed(
+    places: &mut Vec<u32>,
+    view: &View<'_>,
+    violation: &Violation,
+) -> Result<(), NoMemory> {
+    for change in shown(&view.explanation.remedies) {
         match change {
-            Change::Gets(label) => add_label(places, case, *label)?,
+            Change::Gets(label) => add_label(places, view, *label)?,
             Change::Misses(at) | Change::ComesBefore(at) => {
-                add_entry(places, case, *at, FEW_ENTRIES)?;
+                add_entry(places, view, *at, FEW_ENTRIES)?;
             }
         }
     }
@@ -67,60 +75,104 @@ fn add_changed(places: &mut Vec<u32>, case: &Case<'_>, no: &No<'_>) -> Result<()
 }
 
 // Adds the earlier insertion of an element that is inserted again, and the insertion that the update depends on.
-fn add_needed(places: &mut Vec<u32>, case: &Case<'_>, op: &Op) -> Result<(), NoMemory> {
-    if let Op::After { element, .. } = op {
-        add_insertion(places, case, *element)?;
-    }
-    match needed_by(op) {
-        Some(element) => add_insertion(places, case, element),
-        None => Ok(()),
-    }
-}
-
-fn add_insertion(places: &mut Vec<u32>, case: &Case<'_>, element: u32) -> Result<(), NoMemory> {
-    let sort = LabelsWith::Element(element);
-    let labels = labels_with(*places.allocator(), case.log, &case.told.places, sort)?;
-    match labels.first() {
-        Some(label) => add_label(places, case, *label),
-        None => Ok(()),
-    }
-}
-
-fn add_label(places: &mut Vec<u32>, case: &Case<'_>, label: u32) -> Result<(), NoMemory> {
-    match case.told.places.at(label) {
-        Some(at) => add_entry(places, case, at, FEW_ENTRIES),
-        None => Ok(()),
-    }
-}
-
-// Adds the latest updates of the elements at which the answer differs from the right one.
-fn add_differing(places: &mut Vec<u32>, case: &Case<'_>, no: &No<'_>) -> Result<(), NoMemory> {
-    let Some(Command::Operate { op: right, .. }) = &no.why.right else {
+fn add_needed(
+    places: &mut Vec<u32>,
+    view: &View<'_>,
+    violation: &Violation,
+) -> Result<(), NoMemory> {
+    let Some(op) = operation_in(&violation.reported) else {
         return Ok(());
     };
-    let (one, other) = elements_between(no.op, right);
-    add_updates(places, case, no, one)?;
-    add_updates(places, case, no, other)
+    if let Op::After { element, .. } = op {
+        add_insertion(places, view, *element)?;
+    }
+    match needed_by(op) {
+        Some(element) => add_insertion(places, view, element),
+        None => Ok(()),
+    }
+}
+
+fn add_insertion(places: &mut Vec<u32>, view: &View<'_>, element: u32) -> Result<(), NoMemory> {
+    let sort = LabelsWith::Element(element);
+    let labels = labels_with(
+        *places.allocator(),
+        &view.explanation.log,
+        &view.explanation.places,
+        sort,
+    )?;
+    match labels.first() {
+        Some(label) => add_label(places, view, *label),
+        None => Ok(()),
+    }
+}
+
+fn add_label(places: &mut Vec<u32>, view: &View<'_>, label: u32) -> Result<(), NoMemory> {
+    match view.explanation.places.at(label) {
+        Some(at) => add_entry(places, view, at, FEW_ENTRIES),
+        None => Ok(()),
+    }
+}
+
+// Adds the latest updates of the elements at which the answer differs from the expected one.
+fn add_differing(
+    places: &mut Vec<u32>,
+    view: &View<'_>,
+    violation: &Violation,
+) -> Result<(), NoMemory> {
+    let (one, other) = differing_elements(violation);
+    add_updates(places, view, violation, one)?;
+    add_updates(places, view, violation, other)
+}
+
+// Returns the elements to look at: of two list reads those at the first difference, of two sets the first missing and
+// the first unexpected element, of a removal its own element.
+fn differing_elements(violation: &Violation) -> (Option<u32>, Option<u32>) {
+    let reported = operation_in(&violation.reported);
+    let expected = violation.expected.as_ref().and_then(operation_in);
+    match (&violation.difference, reported, expected) {
+        (Some(Difference::At(place)), Some(Op::RgaRead(reported)), Some(Op::RgaRead(expected))) => (
+            reported.as_slice().get(*place).copied(),
+            expected.as_slice().get(*place).copied(),
+        ),
+        (Some(Difference::Sets { .. }), Some(Op::OrRemove { element, .. }), _) => {
+            (Some(*element), None)
+        }
+        (
+            Some(
+                Difference::Sets {
+                    missing,
+                    unexpected,
+                },
+            ),
+            _,
+            _,
+        ) => (missing.first().copied(), unexpected.first().copied()),
+        _ => (None, None),
+    }
 }
 
 // Adds the latest updates of the element, and their deliveries to the replica.
 fn add_updates(
     places: &mut Vec<u32>,
-    case: &Case<'_>,
-    no: &No<'_>,
+    view: &View<'_>,
+    violation: &Violation,
     element: Option<u32>,
 ) -> Result<(), NoMemory> {
     let Some(element) = element else {
         return Ok(());
     };
     let mut left = MOST_NAMING;
-    for label in (0..no.fault.label).rev() {
+    for label in (0..violation.fault.label).rev() {
         if left == 0 {
             break;
         }
-        if case.op(label).is_some_and(|op| is_update_of(op, element)) {
-            add_label(places, case, label)?;
-            add_arrival(places, case, no, label)?;
+        if view
+            .explanation
+            .operation(label)
+            .is_some_and(|op| is_update_of(op, element))
+        {
+            add_label(places, view, label)?;
+            add_arrival(places, view, violation, label)?;
             left -= 1;
         }
     }
@@ -129,12 +181,12 @@ fn add_updates(
 
 fn add_arrival(
     places: &mut Vec<u32>,
-    case: &Case<'_>,
-    no: &No<'_>,
+    view: &View<'_>,
+    violation: &Violation,
     label: u32,
 ) -> Result<(), NoMemory> {
-    match delivery_of(case, no.replica, label) {
-        Some(at) => add_entry(places, case, at, FEW_ENTRIES),
+    match view.explanation.delivery(violation.replica, label) {
+        Some(at) => add_entry(places, view, at, FEW_ENTRIES),
         None => Ok(()),
     }
 }
@@ -152,21 +204,26 @@ fn is_update_of(op: &Op, wanted: u32) -> bool {
 }
 
 // Adds the replica's latest labels and deliveries, each delivery with its label.
-fn add_latest(places: &mut Vec<u32>, case: &Case<'_>, no: &No<'_>) -> Result<(), NoMemory> {
-    let Some(before) = case.log.get(..no.place as usize) else {
+fn add_latest(
+    places: &mut Vec<u32>,
+    view: &View<'_>,
+    violation: &Violation,
+) -> Result<(), NoMemory> {
+    let Some(before) = view.explanation.log.get(..violation.place as usize) else {
         return Ok(());
     };
-    let mut at = no.place;
+    let mut at = violation.place;
     for entry in before.iter().rev() {
         at = at.saturating_sub(1);
         match &entry.command {
-            Command::Deliver { replica, label } if *replica == no.replica && is_accepted(entry) => {
-                add_entry(places, case, at, FEW_ENTRIES)?;
-                add_label(places, case, *label)?;
+            Command::Deliver { replica, label }
+                if *replica == violation.replica && is_accepted(entry) => {
+                add_entry(places, view, at, FEW_ENTRIES)?;
+                add_label(places, view, *label)?;
             }
             Command::Operate { replica, .. } | Command::Join { replica, .. }
-                if *replica == no.replica => {
-                add_entry(places, case, at, FEW_ENTRIES)?;
+                if *replica == violation.replica => {
+                add_entry(places, view, at, FEW_ENTRIES)?;
             }
             _ => {}
         }

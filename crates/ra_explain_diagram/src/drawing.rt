@@ -3,8 +3,8 @@ ghost use Rattle.std.specs.Prelude.{◌≡◌};
 ghost use Rattle.ra_explain_diagram.specs.Drawn.{replica_of};
 
 use crate::chosen::places_of;
-use ra_explain::Change;
-use ra_explain_text::{Case, No};
+use ra_explain::{Change, Violation};
+use ra_explain_text::{View, shown};
 use ra_labels::{Command, NoMemory, Reply};
 use std::alloc::Global;
 
@@ -48,18 +48,18 @@ pub struct Picture {
 
 impl Picture {
     /// Returns the picture of this label.
-    pub fn of(alloc: Global, case: &Case<'_>, no: &No<'_>) -> Result<Picture, NoMemory> {
-        let places = places_of(alloc, case, no)?;
-        let columns = columns_of(alloc, case, no, &places)?;
+    pub fn of(alloc: Global, view: &View<'_>, violation: &Violation) -> Result<Picture, NoMemory> {
+        let places = places_of(alloc, view, violation)?;
+        let columns = columns_of(alloc, view, violation, &places)?;
         let mut rows = Vec::new(alloc);
         let mut next = 0;
         for at in &places {
-            if is_at_one(case, &columns, *at) {
+            if is_at_one(view, &columns, *at) {
                 let folded = at.saturating_sub(next);
                 if folded > 0 {
                     rows.push(Row::Fold(folded))?;
                 }
-                add_rows(&mut rows, no, *at)?;
+                add_rows(&mut rows, view, violation, *at)?;
                 next = at.saturating_add(1);
             }
         }
@@ -67,8 +67,8 @@ impl Picture {
     }
 
     /// Returns the number of replicas without a column.
-    pub fn left_out(&self, case: &Case<'_>) -> u32 {
-        let all = case.told.replicas as usize;
+    pub fn left_out(&self, view: &View<'_>) -> u32 {
+        let all = view.explanation.replicas as usize;
         all.saturating_sub(self.columns.len()) as u32
     }
 
@@ -87,15 +87,20 @@ impl Picture {
 }
 
 // Appends the row of the entry at this index, with those of helpful changes before it.
-fn add_rows(rows: &mut Vec<Row>, no: &No<'_>, at: u32) -> Result<(), NoMemory> {
-    let mut row = if at == no.place {
+fn add_rows(
+    rows: &mut Vec<Row>,
+    view: &View<'_>,
+    violation: &Violation,
+    at: u32,
+) -> Result<(), NoMemory> {
+    let mut row = if at == violation.place {
         Row::Asked
     } else {
         Row::Entry(at)
     };
-    for change in no.help.told() {
+    for change in shown(&view.explanation.remedies) {
         match change {
-            Change::Gets(label) if at == no.place => rows.push(Row::With(*label))?,
+            Change::Gets(label) if at == violation.place => rows.push(Row::With(*label))?,
             Change::Misses(missed) if *missed == at => row = Row::Without(at),
             Change::ComesBefore(next) if *next == at => rows.push(Row::Before(at))?,
             _ => {}
@@ -105,10 +110,10 @@ fn add_rows(rows: &mut Vec<Row>, no: &No<'_>, at: u32) -> Result<(), NoMemory> {
 }
 
 // Returns `true` if the entry at this index happened at a replica with a column.
-fn is_at_one(case: &Case<'_>, columns: &[Column], place: u32) -> bool {
-    match case.entry(place) {
+fn is_at_one(view: &View<'_>, columns: &[Column], place: u32) -> bool {
+    match view.explanation.entry(place) {
         Some(entry) => {
-            let (_, at) = ends_of(case, &entry.command);
+            let (_, at) = ends_of(view, &entry.command);
             columns.iter().any(|column| Some(column.replica) == at)
         }
         None => false,
@@ -119,15 +124,15 @@ fn is_at_one(case: &Case<'_>, columns: &[Column], place: u32) -> bool {
 // seven others.
 fn columns_of(
     alloc: Global,
-    case: &Case<'_>,
-    no: &No<'_>,
+    view: &View<'_>,
+    violation: &Violation,
     places: &[u32],
 ) -> Result<Vec<Column>, NoMemory> {
     let mut replicas = Vec::new(alloc);
-    replicas.push(no.replica)?;
+    replicas.push(violation.replica)?;
     for at in places {
-        if let Some(entry) = case.entry(*at) {
-            let (one, other) = ends_of(case, &entry.command);
+        if let Some(entry) = view.explanation.entry(*at) {
+            let (one, other) = ends_of(view, &entry.command);
             add_replica(&mut replicas, one)?;
             add_replica(&mut replicas, other)?;
         }
@@ -137,7 +142,7 @@ fn columns_of(
     for replica in &replicas {
         columns.push(Column {
             replica: *replica,
-            begins: join_of(case, *replica),
+            begins: join_of(view, *replica),
         })?;
     }
     Ok(columns)
@@ -153,9 +158,9 @@ fn add_replica(replicas: &mut Vec<u8>, replica: Option<u8>) -> Result<(), NoMemo
 }
 
 // Returns the index of the replica's join; `None` for an initial replica.
-fn join_of(case: &Case<'_>, replica: u8) -> Option<u32> {
+fn join_of(view: &View<'_>, replica: u8) -> Option<u32> {
     let mut place: u32 = 0;
-    for entry in case.log {
+    for entry in &view.explanation.log {
         match entry.reply {
             Reply::Joined(joined) if joined == replica => return Some(place),
             _ => {}
@@ -167,12 +172,12 @@ fn join_of(case: &Case<'_>, replica: u8) -> Option<u32> {
 
 /// Returns the ends of an entry's arrow: the replica that a label or a state comes from, if any, and the one that has
 /// it then.
-pub fn ends_of(case: &Case<'_>, command: &Command) -> (Option<u8>, Option<u8>)
+pub fn ends_of(view: &View<'_>, command: &Command) -> (Option<u8>, Option<u8>)
     ensures { result.1 ≡ replica_of command.now }
 {
     match command {
         Command::Operate { replica, .. } => (None, Some(*replica)),
-        Command::Deliver { replica, label } => (case.maker(*label), Some(*replica)),
+        Command::Deliver { replica, label } => (view.explanation.issuer(*label), Some(*replica)),
         Command::Join { replica, from } => (Some(*from), Some(*replica)),
         Command::Verdict => (None, None),
     }

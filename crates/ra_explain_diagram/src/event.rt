@@ -3,8 +3,8 @@ ghost use Rattle.std.specs.Prelude.{◌≡◌, IfOk, IfSome};
 ghost use Rattle.ra_explain_diagram.specs.Drawn.{IsOfLog, IsDrawn};
 
 use crate::drawing::{Row, ends_of};
-use ra_explain_common::put;
-use ra_explain_text::{Case, No, put_line};
+use ra_explain::Violation;
+use ra_explain_text::{View, put, put_line};
 use ra_history_lines::number::{put_number, put_numbered};
 use ra_history_writer::spelling::put_command;
 use ra_journal::Entry;
@@ -49,37 +49,37 @@ impl Event {
     /// Returns the event of this row, or `None` if entries are folded.
     pub fn of(
         alloc: Global,
-        case: &Case<'_>,
-        no: &No<'_>,
+        view: &View<'_>,
+        violation: &Violation,
         row: Row,
     ) -> Result<Option<Event>, NoMemory>
-        ensures folded { IfOk result (λ event. IfSome event (IsDrawn case.now.log.now row)) }
+        ensures folded { IfOk result (λ event. IfSome event (IsDrawn view.now.explanation.now.log.items row)) }
     {
         match row {
             Row::Fold(_) => Ok(None),
-            Row::Entry(place) => Event::at(alloc, case, place, false),
-            Row::Without(place) => Event::at(alloc, case, place, true),
-            Row::Asked => Event::asked(alloc, case, no, no.place, false),
-            Row::Before(place) => Event::asked(alloc, case, no, place, true),
-            Row::With(label) => Event::with(alloc, case, no, label),
+            Row::Entry(place) => Event::at(alloc, view, place, false),
+            Row::Without(place) => Event::at(alloc, view, place, true),
+            Row::Asked => Event::asked(alloc, view, violation, violation.place, false),
+            Row::Before(place) => Event::asked(alloc, view, violation, place, true),
+            Row::With(label) => Event::with(alloc, view, violation, label),
         }
     }
 
     fn at(
         alloc: Global,
-        case: &Case<'_>,
+        view: &View<'_>,
         place: u32,
         is_dashed: bool,
     ) -> Result<Option<Event>, NoMemory>
-        ensures { IfOk result (λ event. IfSome event (IsOfLog case.now.log.now place)) }
+        ensures { IfOk result (λ event. IfSome event (IsOfLog view.now.explanation.now.log.items place)) }
     {
-        let Some(entry) = case.entry(place) else {
+        let Some(entry) = view.explanation.entry(place) else {
             return Ok(None);
         };
-        let (from, to) = ends_of(case, &entry.command);
+        let (from, to) = ends_of(view, &entry.command);
         let mut event = Event::new(alloc, place, to);
         put_line(&mut event.head, place)?;
-        put_words(&mut event.words, case, entry)?;
+        put_words(&mut event.words, view, entry)?;
         event.from = from;
         event.is_dashed = is_dashed;
         Ok(Some(event))
@@ -88,20 +88,20 @@ impl Event {
     // Returns the violating label, before the entry at this index.
     fn asked(
         alloc: Global,
-        case: &Case<'_>,
-        no: &No<'_>,
+        view: &View<'_>,
+        violation: &Violation,
         place: u32,
         is_dashed: bool,
     ) -> Result<Option<Event>, NoMemory> {
-        let mut event = Event::new(alloc, place, Some(no.replica));
+        let mut event = Event::new(alloc, place, Some(violation.replica));
         if is_dashed {
             put(&mut event.head, "or here")?;
         } else {
             put_line(&mut event.head, place)?;
         }
-        put_number(&mut event.words, no.fault.label)?;
+        put_number(&mut event.words, violation.fault.label)?;
         put(&mut event.words, if is_dashed { ": " } else { "? " })?;
-        put_body(&mut event.words, case, no.command)?;
+        put_body(&mut event.words, view, &violation.reported)?;
         event.is_dashed = is_dashed;
         event.is_asked = true;
         Ok(Some(event))
@@ -110,14 +110,14 @@ impl Event {
     // Returns the delivery of this label just before the violating one.
     fn with(
         alloc: Global,
-        case: &Case<'_>,
-        no: &No<'_>,
+        view: &View<'_>,
+        violation: &Violation,
         label: u32,
     ) -> Result<Option<Event>, NoMemory> {
-        let mut event = Event::new(alloc, no.place, Some(no.replica));
+        let mut event = Event::new(alloc, violation.place, Some(violation.replica));
         put(&mut event.head, "or with")?;
         put_numbered(&mut event.words, b"got ", label)?;
-        event.from = case.maker(label);
+        event.from = view.explanation.issuer(label);
         event.is_dashed = true;
         Ok(Some(event))
     }
@@ -126,7 +126,7 @@ impl Event {
 // Appends what happened at the replica: a label with its number, or a delivery.
 fn put_words(
     out: &mut Vec<u8>,
-    case: &Case<'_>,
+    view: &View<'_>,
     entry: &Entry<Command, Reply>,
 ) -> Result<(), NoMemory> {
     match entry.reply {
@@ -135,16 +135,16 @@ fn put_words(
         Reply::Ok(label) => {
             put_number(out, label)?;
             put(out, ": ")?;
-            put_body(out, case, &entry.command)
+            put_body(out, view, &entry.command)
         }
         Reply::Yes(_) | Reply::No { .. } | Reply::Refused(_) => Ok(()),
     }
 }
 
 // Appends the line of the command without the name of its replica.
-fn put_body(words: &mut Vec<u8>, case: &Case<'_>, command: &Command) -> Result<(), NoMemory> {
+fn put_body(words: &mut Vec<u8>, view: &View<'_>, command: &Command) -> Result<(), NoMemory> {
     let mut line = Vec::new(*words.allocator());
-    put_command(&mut line, case.names, command)?;
+    put_command(&mut line, view.names, command)?;
     let mut is_behind = false;
     for byte in &line {
         if is_behind {

@@ -3,79 +3,72 @@ use crate::drawing::Picture;
 use crate::event::Event;
 use crate::picture::put_left_out;
 use crate::svg::{put_answer, put_drawing};
-use ra_explain_common::{put, put_end, put_escaped, put_start};
-use ra_explain_text::{Case, No, put_name, put_words};
+use ra_explain::Violation;
+use ra_explain_text::{View, put, put_end, put_escaped, put_name, put_start, put_words};
 use ra_labels::NoMemory;
-use ra_monitor::Report;
 
-/// Appends the document of a checked history, with this violation, if there is one.
-pub fn put_html(
-    out: &mut Vec<u8>,
-    case: &Case<'_>,
-    report: &Report,
-    no: Option<&No<'_>>,
-) -> Result<(), NoMemory> {
+/// Appends the document of a checked history: the text, and for a violation the picture.
+pub fn put_html(out: &mut Vec<u8>, view: &View<'_>) -> Result<(), NoMemory> {
     let mut title = Vec::new(*out.allocator());
-    put_answer(&mut title, report)?;
+    put_answer(&mut title, &view.explanation.report)?;
     let mut words = Vec::new(*out.allocator());
-    put_words(&mut words, case, report, no)?;
+    put_words(&mut words, view)?;
     put_start(out, &title, &words)?;
-    if let Some(no) = no {
-        let picture = Picture::of(*out.allocator(), case, no)?;
-        put_figure(out, case, report, no, &picture)?;
-        put_table(out, case, no, &picture)?;
+    if let Some(violation) = &view.explanation.violation {
+        let picture = Picture::of(*out.allocator(), view, violation)?;
+        put_figure(out, view, violation, &picture)?;
+        put_table(out, view, violation, &picture)?;
     }
     put_end(out)
 }
 
 fn put_figure(
     out: &mut Vec<u8>,
-    case: &Case<'_>,
-    report: &Report,
-    no: &No<'_>,
+    view: &View<'_>,
+    violation: &Violation,
     picture: &Picture,
 ) -> Result<(), NoMemory> {
     put(out, "<figure>\n")?;
-    put_drawing(out, case, report, no, picture)?;
+    put_drawing(out, view, violation, picture)?;
     put(out, "<figcaption>")?;
-    put_left_out(out, picture.left_out(case))?;
+    put_left_out(out, picture.left_out(view))?;
     put(out, "</figcaption></figure>\n")
 }
 
 fn put_table(
     out: &mut Vec<u8>,
-    case: &Case<'_>,
-    no: &No<'_>,
+    view: &View<'_>,
+    violation: &Violation,
     picture: &Picture,
 ) -> Result<(), NoMemory> {
     put(out, "<table>\n<caption>The picture, row by row</caption>\n")?;
     put(out, "<tr><th>line<th>replica<th>event<th>from\n")?;
     for row in &picture.rows {
-        if let Some(event) = Event::of(*out.allocator(), case, no, *row)? {
-            put_row(out, case, &event)?;
+        if let Some(event) = Event::of(*out.allocator(), view, violation, *row)? {
+            put_row(out, view, &event)?;
         }
     }
     put(out, "</table>\n")
 }
 
-fn put_row(out: &mut Vec<u8>, case: &Case<'_>, event: &Event) -> Result<(), NoMemory> {
+fn put_row(out: &mut Vec<u8>, view: &View<'_>, event: &Event) -> Result<(), NoMemory> {
     put(out, "<tr><td>")?;
     put_escaped(out, &event.head)?;
     put(out, "<td>")?;
-    put_replica(out, case, event.to)?;
+    put_replica(out, view, event.to)?;
     put(out, "<td>")?;
     put_escaped(out, &event.words)?;
     if event.is_dashed && event.head.starts_with(b"line") {
         put(out, ", or without it")?;
     }
     put(out, "<td>")?;
-    put_replica(out, case, event.from)?;
+    put_replica(out, view, event.from)?;
     put(out, "\n")
 }
 
-fn put_replica(out: &mut Vec<u8>, case: &Case<'_>, replica: Option<u8>) -> Result<(), NoMemory> {
+fn put_replica(out: &mut Vec<u8>, view: &View<'_>, replica: Option<u8>) -> Result<(), NoMemory> {
     match replica {
-        Some(replica) => put_name(out, case, replica),
+        Some(replica) => put_name(out, view.names, replica),
         None => Ok(()),
     }
 }

@@ -1,8 +1,8 @@
 //! The picture as characters.
 use crate::drawing::{Picture, Row};
 use crate::event::Event;
-use ra_explain_common::{put, put_count};
-use ra_explain_text::{Case, No};
+use ra_explain::Violation;
+use ra_explain_text::{View, put, put_count};
 use ra_history_lines::number::put_numbered;
 use ra_labels::NoMemory;
 
@@ -16,19 +16,19 @@ const WIDEST: usize = 28;
 /// Appends the picture, with replicas as columns and events as rows.
 pub fn put_picture(
     out: &mut Vec<u8>,
-    case: &Case<'_>,
-    no: &No<'_>,
+    view: &View<'_>,
+    violation: &Violation,
     picture: &Picture,
 ) -> Result<(), NoMemory> {
     put(out, "\n")?;
-    put_names(out, case, picture)?;
+    put_names(out, view, picture)?;
     for row in &picture.rows {
         match row {
             Row::Fold(count) => put_fold(out, *count)?,
-            other => put_event(out, case, no, picture, *other)?,
+            other => put_event(out, view, violation, picture, *other)?,
         }
     }
-    put_left_out(out, picture.left_out(case))
+    put_left_out(out, picture.left_out(view))
 }
 
 /// Appends the number of entries that are not drawn between two others.
@@ -46,12 +46,12 @@ pub fn put_left_out(out: &mut Vec<u8>, count: u32) -> Result<(), NoMemory> {
     put(out, " not drawn\n")
 }
 
-fn put_names(out: &mut Vec<u8>, case: &Case<'_>, picture: &Picture) -> Result<(), NoMemory> {
+fn put_names(out: &mut Vec<u8>, view: &View<'_>, picture: &Picture) -> Result<(), NoMemory> {
     let mut line = blank(out)?;
     let width = width_of(picture);
     let mut start = MARGIN;
     for column in &picture.columns {
-        if let Some(name) = case.names.name(column.replica) {
+        if let Some(name) = view.names.name(column.replica) {
             write_name(&mut line, start, name, width);
         }
         start = start.saturating_add(width);
@@ -73,12 +73,12 @@ fn write_name(line: &mut Vec<u8>, start: usize, name: &[u8], width: usize) {
 
 fn put_event(
     out: &mut Vec<u8>,
-    case: &Case<'_>,
-    no: &No<'_>,
+    view: &View<'_>,
+    violation: &Violation,
     picture: &Picture,
     row: Row,
 ) -> Result<(), NoMemory> {
-    let Some(event) = Event::of(*out.allocator(), case, no, row)? else {
+    let Some(event) = Event::of(*out.allocator(), view, violation, row)? else {
         return Ok(());
     };
     let mut line = blank(out)?;

@@ -1,8 +1,8 @@
 //! The picture as a drawing in SVG.
 use crate::drawing::{Column, Picture, Row};
 use crate::event::Event;
-use ra_explain_common::{put, small};
-use ra_explain_text::{Case, No, put_name};
+use ra_explain::Violation;
+use ra_explain_text::{View, put, put_name, small};
 use ra_history_lines::number::put_numbered;
 use ra_history_lines::reply::put_end;
 use ra_labels::NoMemory;
@@ -42,33 +42,27 @@ orient=\"auto\">\
 <path d=\"M0 0 8 4 0 8z\" fill=\"currentColor\"/></marker></defs>\n";
 
 /// Appends the check's end line, and the picture of a violation.
-pub fn put_svg(
-    out: &mut Vec<u8>,
-    case: &Case<'_>,
-    report: &Report,
-    no: Option<&No<'_>>,
-) -> Result<(), NoMemory> {
-    let Some(no) = no else {
-        put_start(out, report, WIDTH, TOP)?;
+pub fn put_svg(out: &mut Vec<u8>, view: &View<'_>) -> Result<(), NoMemory> {
+    let Some(violation) = &view.explanation.violation else {
+        put_start(out, &view.explanation.report, WIDTH, TOP)?;
         return put(out, "</svg>\n");
     };
-    let picture = Picture::of(*out.allocator(), case, no)?;
-    put_drawing(out, case, report, no, &picture)
+    let picture = Picture::of(*out.allocator(), view, violation)?;
+    put_drawing(out, view, violation, &picture)
 }
 
 /// Appends the drawing of this picture.
 pub fn put_drawing(
     out: &mut Vec<u8>,
-    case: &Case<'_>,
-    report: &Report,
-    no: &No<'_>,
+    view: &View<'_>,
+    violation: &Violation,
     picture: &Picture,
 ) -> Result<(), NoMemory> {
     let columns = small(picture.columns.len());
     let bottom = height_of(small(picture.rows.len()));
-    put_start(out, report, left_of(columns), bottom)?;
-    put_columns(out, case, picture, bottom)?;
-    put_rows(out, case, no, picture)?;
+    put_start(out, &view.explanation.report, left_of(columns), bottom)?;
+    put_columns(out, view, picture, bottom)?;
+    put_rows(out, view, violation, picture)?;
     put(out, "</svg>\n")
 }
 
@@ -125,7 +119,7 @@ fn put_line(out: &mut Vec<u8>, from: (u32, u32), to: (u32, u32)) -> Result<(), N
 
 fn put_columns(
     out: &mut Vec<u8>,
-    case: &Case<'_>,
+    view: &View<'_>,
     picture: &Picture,
     bottom: u32,
 ) -> Result<(), NoMemory> {
@@ -134,7 +128,7 @@ fn put_columns(
         let start = start_of(picture, *column);
         put(out, "<g class=\"replica\">")?;
         put_text(out, x, TOP - HEIGHT)?;
-        put_name(out, case, column.replica)?;
+        put_name(out, view.names, column.replica)?;
         put(out, "</text>")?;
         put_line(out, (x, start), (x, bottom.saturating_sub(ABOVE)))?;
         put(out, "/></g>\n")?;
@@ -158,8 +152,8 @@ fn start_of(picture: &Picture, column: Column) -> u32 {
 
 fn put_rows(
     out: &mut Vec<u8>,
-    case: &Case<'_>,
-    no: &No<'_>,
+    view: &View<'_>,
+    violation: &Violation,
     picture: &Picture,
 ) -> Result<(), NoMemory> {
     let mut y = TOP;
@@ -167,7 +161,7 @@ fn put_rows(
         match row {
             Row::Fold(count) => put_fold(out, *count, y)?,
             other => {
-                if let Some(event) = Event::of(*out.allocator(), case, no, *other)? {
+                if let Some(event) = Event::of(*out.allocator(), view, violation, *other)? {
                     put_event(out, picture, &event, y)?;
                 }
             }

@@ -2,7 +2,7 @@
 use crate::expected::Expected;
 use crate::field::Trouble;
 use crate::rule::{put_name_hint, put_number_hint};
-use ra_explain_common::{put, put_head};
+use ra_explain_text::{put, put_head};
 use ra_history_lines::Format;
 use ra_history_lines::number::number;
 use ra_labels::NoMemory;

@@ -1,7 +1,7 @@
 //! The rules of numbers and names, and the one that a field breaks.
 use crate::hint::put_note;
 use crate::shown::{field_of, put_shown};
-use ra_explain_common::{put, put_head, put_size};
+use ra_explain_text::{put, put_head, put_size};
 use ra_history_lines::number::{number, put_numbered, signed_number};
 use ra_labels::NoMemory;
 

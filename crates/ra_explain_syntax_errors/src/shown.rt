@@ -1,5 +1,5 @@
 //! The bytes of a line, as a page or an object shows them.
-use ra_explain_common::put;
+use ra_explain_text::put;
 use ra_history_lines::fields::Fields;
 use ra_labels::NoMemory;
 

@@ -1,27 +1,30 @@
 //! The causes other than a query: a clock below one that is seen, and an update that is not admitted.
-use crate::case::Case;
-use crate::no::No;
-use crate::put::{put_label, put_label_and, put_line, put_name};
-use ra_explain::{LabelsWith, labels_with};
-use ra_explain_common::{put, put_count, put_head, small};
+use crate::layout::{put, put_count, put_head, small};
+use crate::quotes::{put_label, put_label_and, put_line, put_name};
+use crate::view::View;
+use ra_explain::{LabelsWith, Violation, labels_with, operation_in};
 use ra_history_lines::number::put_numbered;
-use ra_labels::{Command, NoMemory, Op, Reply};
+use ra_labels::{NoMemory, Op};
 
 /// The largest number of labels with greater stamps that are shown.
 const MOST_ABOVE: usize = 3;
 
 /// Appends the latest labels that this one sees with a stamp above its own, how its replica came to see them, and the
 /// rule that is broken.
-pub fn put_order(out: &mut Vec<u8>, case: &Case<'_>, no: &No<'_>) -> Result<(), NoMemory> {
-    let mut told: usize = 0;
-    for other in no.why.above.iter().rev() {
-        if told == MOST_ABOVE {
+pub fn put_order(
+    out: &mut Vec<u8>,
+    view: &View<'_>,
+    violation: &Violation,
+) -> Result<(), NoMemory> {
+    let mut shown: usize = 0;
+    for other in violation.above.iter().rev() {
+        if shown == MOST_ABOVE {
             break;
         }
-        put_above(out, case, no.replica, *other)?;
-        told = told.saturating_add(1);
+        put_above(out, view, violation.replica, *other)?;
+        shown = shown.saturating_add(1);
     }
-    let others = no.why.above.len().saturating_sub(told);
+    let others = violation.above.len().saturating_sub(shown);
     if others > 0 {
         put_head(out, "")?;
         put(out, "and ")?;
@@ -35,77 +38,67 @@ pub fn put_order(out: &mut Vec<u8>, case: &Case<'_>, no: &No<'_>) -> Result<(), 
     )
 }
 
-fn put_above(out: &mut Vec<u8>, case: &Case<'_>, replica: u8, other: u32) -> Result<(), NoMemory> {
+fn put_above(out: &mut Vec<u8>, view: &View<'_>, replica: u8, other: u32) -> Result<(), NoMemory> {
     let mut words = Vec::new(*out.allocator());
-    match delivery_of(case, replica, other) {
+    match view.explanation.delivery(replica, other) {
         Some(place) => {
             put(&mut words, ", which was delivered to ")?;
-            put_name(&mut words, case, replica)?;
+            put_name(&mut words, view.names, replica)?;
             put(&mut words, " in ")?;
             put_line(&mut words, place)?;
         }
-        None if case.maker(other) == Some(replica) => {
+        None if view.explanation.issuer(other) == Some(replica) => {
             put(&mut words, ", which its own replica issued")?
         }
         None => put(&mut words, ", which its replica joined with")?,
     }
     put_head(out, "but sees")?;
-    put_label_and(out, case, other, &words)?;
+    put_label_and(out, view, other, &words)?;
     put(out, "\n")
-}
-
-/// Returns the index at which the label was delivered to the replica.
-pub fn delivery_of(case: &Case<'_>, replica: u8, wanted: u32) -> Option<u32> {
-    let mut place: u32 = 0;
-    for entry in case.log {
-        if let Command::Deliver { replica: to, label } = &entry.command {
-            if *to == replica && *label == wanted && matches!(entry.reply, Reply::Got(_)) {
-                return Some(place);
-            }
-        }
-        place = place.saturating_add(1);
-    }
-    None
 }
 
 /// Appends the obstacle to the update: another insertion of its element, or an anchor or element that no label inserts
 /// before it.
-pub fn put_update(out: &mut Vec<u8>, case: &Case<'_>, no: &No<'_>) -> Result<(), NoMemory> {
-    let label = no.fault.label;
-    match no.op {
-        Op::After { element: 0, .. } | Op::RgaRemove(0) => {
+pub fn put_update(
+    out: &mut Vec<u8>,
+    view: &View<'_>,
+    violation: &Violation,
+) -> Result<(), NoMemory> {
+    let label = violation.fault.label;
+    match operation_in(&violation.reported) {
+        Some(Op::After { element: 0, .. } | Op::RgaRemove(0)) => {
             put_head(out, "not possible")?;
             put(
                 out,
                 "0 is the start of the list: it is never inserted and never removed\n",
             )
         }
-        Op::After { anchor, element } => {
+        Some(Op::After { anchor, element }) => {
             if put_insertions(
                 out,
-                case,
+                view,
                 label,
                 *element,
                 ("duplicate", ", also inserted by "),
             )? {
                 return Ok(());
             }
-            put_needed(out, case, label, *anchor)
+            put_needed(out, view, label, *anchor)
         }
-        Op::RgaRemove(element) => put_needed(out, case, label, *element),
+        Some(Op::RgaRemove(element)) => put_needed(out, view, label, *element),
         _ => Ok(()),
     }
 }
 
 fn put_needed(
     out: &mut Vec<u8>,
-    case: &Case<'_>,
+    view: &View<'_>,
     label: u32,
     element: u32,
 ) -> Result<(), NoMemory> {
     if put_insertions(
         out,
-        case,
+        view,
         label,
         element,
         ("missing", ", which comes later in the order, by "),
@@ -114,7 +107,7 @@ fn put_needed(
     }
     put_head(out, "missing")?;
     put_numbered(out, b"element ", element)?;
-    match case.op(label) {
+    match view.explanation.operation(label) {
         Some(Op::After { element: own, .. }) if *own == element => {
             put(out, ", which no other label inserts\n")
         }
@@ -126,20 +119,25 @@ fn put_needed(
 // before the label. Returns `true` if there are any.
 fn put_insertions(
     out: &mut Vec<u8>,
-    case: &Case<'_>,
+    view: &View<'_>,
     label: u32,
     element: u32,
     words: (&str, &str),
 ) -> Result<bool, NoMemory> {
     let sort = LabelsWith::Element(element);
-    let found = labels_with(*out.allocator(), case.log, &case.told.places, sort)?;
+    let found = labels_with(
+        *out.allocator(),
+        &view.explanation.log,
+        &view.explanation.places,
+        sort,
+    )?;
     let mut any = false;
     for other in found {
         if other != label {
             put_head(out, words.0)?;
             put_numbered(out, b"element ", element)?;
             put(out, words.1)?;
-            put_label(out, case, other)?;
+            put_label(out, view, other)?;
             put(out, "\n")?;
             any = true;
         }

@@ -1,89 +1,118 @@
 //! The explanation as one JSON object. Names and command lines consist of letters, digits, spaces and signs that need
 //! no escape.
-use crate::case::Case;
-use crate::help::Help;
-use crate::no::No;
-use crate::put::{put_line_number, put_name};
-use ra_explain::Change;
-use ra_explain_common::{put, put_size};
-use ra_history_lines::number::put_number;
+ghost use Rattle.std.specs.Prelude.{◌≡◌, ◌++◌, OnOk};
+ghost use Rattle.ra_explain_text.specs.Json as json;
+ghost use Rattle.ra_explain_text.specs.Json.{object_of};
+
+use crate::layout::{put, put_size};
+use crate::quotes::{put_line_number, put_name};
+use crate::view::View;
+use ra_explain::{Change, Undelivered, Violation};
+use ra_history_lines::Names;
+use ra_history_lines::number::{put_number, put_numbered};
 use ra_history_lines::reply::cause_word;
 use ra_history_writer::spelling::put_command;
-use ra_labels::{NoMemory, Reply};
-use ra_monitor::Report;
+use ra_labels::{Command, NoMemory};
 
-/// The largest number of rejected lines that are listed.
-const MOST_LINES: u32 = 10;
-
-/// Appends the object and a line feed.
-pub fn put_json(
-    out: &mut Vec<u8>,
-    case: &Case<'_>,
-    report: &Report,
-    no: Option<&No<'_>>,
-) -> Result<(), NoMemory> {
-    match no {
-        Some(no) => put_no(out, case, no)?,
-        None => {
-            put(out, "{\"answer\":\"yes\",\"labels\":")?;
-            put_number(out, report.labels)?;
-        }
+/// Appends the explanation as one JSON object, and a line feed.
+///
+/// # Errors
+///
+/// `NoMemory` if an allocation fails.
+///
+/// # Complexity
+///
+/// O(length of the object).
+pub fn put_json(out: &mut Vec<u8>, view: &View<'_>) -> Result<(), NoMemory>
+    // After success, exactly the object of the explanation is appended, with a line feed. Its lines are those that the
+    // writer of histories spells.
+    ensures { OnOk result (out.new.items
+        ≡ out.old.items ++ object_of view.now.names.now view.now.explanation.now) }
+{
+    let it = view.explanation;
+    match &it.violation {
+        Some(violation) => put_violation(out, view, violation)?,
+        None => put_pass(out, it.report.labels)?,
     }
-    put(out, ",\"refused\":")?;
-    put_refused(out, case, report.refused)?;
-    put(out, ",\"lacks\":")?;
-    put_lacking(out, case)?;
-    put(out, "}\n")
+    put_numbered(out, b",\"refused\":", it.report.refused)?;
+    put(out, ",\"refused_lines\":[")?;
+    put_lines(out, &it.rejected)?;
+    put(out, "],\"lacks\":{")?;
+    put_lacks(out, view.names, &it.undelivered)?;
+    put(out, "}}\n")
 }
 
-fn put_no(out: &mut Vec<u8>, case: &Case<'_>, no: &No<'_>) -> Result<(), NoMemory> {
-    put(out, "{\"answer\":\"no\",\"label\":")?;
-    put_number(out, no.fault.label)?;
+fn put_pass(out: &mut Vec<u8>, labels: u32) -> Result<(), NoMemory>
+    ensures { OnOk result (out.new.items ≡ out.old.items ++ json.pass_members labels) }
+{
+    put_numbered(out, b"{\"answer\":\"yes\",\"labels\":", labels)
+}
+
+fn put_violation(out: &mut Vec<u8>, view: &View<'_>, violation: &Violation) -> Result<(), NoMemory>
+    ensures { OnOk result (out.new.items ≡ out.old.items
+        ++ json.violation_members view.now.names.now violation.now view.now.explanation.now.remedies) }
+{
+    put_numbered(out, b"{\"answer\":\"no\",\"label\":", violation.fault.label)?;
     put(out, ",\"cause\":\"")?;
-    put(out, cause_word(no.fault.cause))?;
+    put(out, cause_word(violation.fault.cause))?;
     put(out, "\",\"line\":")?;
-    put_line_number(out, no.place)?;
+    put_line_number(out, violation.place)?;
     put(out, ",\"replica\":\"")?;
-    put_name(out, case, no.replica)?;
+    put_name(out, view.names, violation.replica)?;
     put(out, "\",\"told\":\"")?;
-    put_command(out, case.names, no.command)?;
+    put_command(out, view.names, &violation.reported)?;
     put(out, "\",\"right\":")?;
-    put_right(out, case, no)?;
-    put(out, ",\"would_be_right\":")?;
-    put_changes(out, &no.help)
+    put_expected(out, view.names, &violation.expected)?;
+    put(out, ",\"would_be_right\":[")?;
+    put_changes(out, &view.explanation.remedies.found)?;
+    put(out, "],\"tried\":")?;
+    put_size(out, view.explanation.remedies.tried.len())
 }
 
-fn put_right(out: &mut Vec<u8>, case: &Case<'_>, no: &No<'_>) -> Result<(), NoMemory> {
-    match &no.why.right {
+fn put_expected(
+    out: &mut Vec<u8>,
+    names: &Names,
+    expected: &Option<Command>,
+) -> Result<(), NoMemory>
+    ensures { OnOk result (out.new.items ≡ out.old.items ++ json.expected_value names.now expected.now) }
+{
+    match expected {
         Some(command) => {
             put(out, "\"")?;
-            put_command(out, case.names, command)?;
+            put_command(out, names, command)?;
             put(out, "\"")
         }
         None => put(out, "null"),
     }
 }
 
-fn put_changes(out: &mut Vec<u8>, help: &Help) -> Result<(), NoMemory> {
-    let mut before = "[";
-    for change in &help.found {
-        put(out, before)?;
-        put_change(out, *change)?;
-        before = ",";
+fn put_changes(out: &mut Vec<u8>, changes: &[Change]) -> Result<(), NoMemory>
+    ensures { OnOk result (out.new.items ≡ out.old.items ++ json.changes_value changes.now) }
+{
+    match changes.split_first() {
+        None => Ok(()),
+        Some((first, more)) => {
+            put_change(out, *first)?;
+            put_more_changes(out, more)
+        }
     }
-    if help.found.is_empty() {
-        put(out, before)?;
-    }
-    put(out, "],\"tried\":")?;
-    put_size(out, help.tried)
 }
 
-fn put_change(out: &mut Vec<u8>, change: Change) -> Result<(), NoMemory> {
+fn put_more_changes(out: &mut Vec<u8>, changes: &[Change]) -> Result<(), NoMemory>
+    ensures { OnOk result (out.new.items ≡ out.old.items ++ json.more_changes changes.now) }
+{
+    for change in changes {
+        put(out, ",")?;
+        put_change(out, *change)?;
+    }
+    Ok(())
+}
+
+fn put_change(out: &mut Vec<u8>, change: Change) -> Result<(), NoMemory>
+    ensures { OnOk result (out.new.items ≡ out.old.items ++ json.change_value change) }
+{
     match change {
-        Change::Gets(label) => {
-            put(out, "{\"gets\":")?;
-            put_number(out, label)?;
-        }
+        Change::Gets(label) => put_numbered(out, b"{\"gets\":", label)?,
         Change::Misses(at) => {
             put(out, "{\"misses_line\":")?;
             put_line_number(out, at)?;
@@ -96,42 +125,57 @@ fn put_change(out: &mut Vec<u8>, change: Change) -> Result<(), NoMemory> {
     put(out, "}")
 }
 
-// Appends the number of rejected lines, and the line numbers of the first ten.
-fn put_refused(out: &mut Vec<u8>, case: &Case<'_>, refused: u32) -> Result<(), NoMemory> {
-    put_number(out, refused)?;
-    put(out, ",\"refused_lines\":[")?;
-    let mut left = MOST_LINES;
-    let mut place: u32 = 0;
-    for entry in case.log {
-        if let Reply::Refused(_) = entry.reply {
-            if left > 0 {
-                put(out, if left == MOST_LINES { "" } else { "," })?;
-                put_line_number(out, place)?;
-                left -= 1;
-            }
+// Appends the numbers of the lines with these indices in the log.
+fn put_lines(out: &mut Vec<u8>, places: &[u32]) -> Result<(), NoMemory>
+    ensures { OnOk result (out.new.items ≡ out.old.items ++ json.lines_value places.now) }
+{
+    match places.split_first() {
+        None => Ok(()),
+        Some((first, more)) => {
+            put_line_number(out, *first)?;
+            put_more_lines(out, more)
         }
-        place = place.saturating_add(1);
     }
-    put(out, "]")
 }
 
-// Appends, for each replica that currently lacks updates, their number and the oldest of their labels.
-fn put_lacking(out: &mut Vec<u8>, case: &Case<'_>) -> Result<(), NoMemory> {
-    put(out, "{")?;
+fn put_more_lines(out: &mut Vec<u8>, places: &[u32]) -> Result<(), NoMemory>
+    ensures { OnOk result (out.new.items ≡ out.old.items ++ json.more_lines places.now) }
+{
+    for place in places {
+        put(out, ",")?;
+        put_line_number(out, *place)?;
+    }
+    Ok(())
+}
+
+// Appends, for each replica that lacks updates, their number and the oldest of their labels.
+fn put_lacks(out: &mut Vec<u8>, names: &Names, lacks: &[Undelivered]) -> Result<(), NoMemory>
+    ensures { OnOk result (out.new.items ≡ out.old.items ++ json.lacks_members names.now true lacks.now) }
+{
     let mut is_first = true;
-    let mut replica: u8 = 0;
-    for lack in &case.told.lacks {
+    for lack in lacks {
         if let Some(oldest) = lack.oldest {
-            put(out, if is_first { "\"" } else { ",\"" })?;
-            put_name(out, case, replica)?;
-            put(out, "\":{\"updates\":")?;
-            put_size(out, lack.updates)?;
-            put(out, ",\"oldest\":")?;
-            put_number(out, oldest)?;
-            put(out, "}")?;
+            put_lack(out, names, is_first, *lack, oldest)?;
             is_first = false;
         }
-        replica = replica.saturating_add(1);
     }
+    Ok(())
+}
+
+fn put_lack(
+    out: &mut Vec<u8>,
+    names: &Names,
+    is_first: bool,
+    lack: Undelivered,
+    oldest: u32,
+) -> Result<(), NoMemory>
+    ensures { OnOk result (out.new.items
+        ≡ out.old.items ++ json.lack_member names.now is_first lack oldest) }
+{
+    put(out, if is_first { "\"" } else { ",\"" })?;
+    put_name(out, names, lack.replica)?;
+    put(out, "\":{\"updates\":")?;
+    put_size(out, lack.updates)?;
+    put_numbered(out, b",\"oldest\":", oldest)?;
     put(out, "}")
 }

@@ -5,30 +5,27 @@
 //! what a call appends to its buffer; stored pages and the model test that (`tests/explanations`).
 #![tactic(auto)]
 
-mod act;
-mod case;
 mod causes;
-mod difference;
-mod help;
+mod document;
+mod elements;
 mod json;
-mod no;
+mod layout;
 mod page;
-mod put;
+mod pass;
 mod query;
-mod seen;
+mod quotes;
+mod rejected;
+mod remedies;
 mod sequence;
-mod told;
+mod shares;
 mod unmet;
-mod yes;
+mod view;
 
-pub use act::needed_by;
-pub use case::{Case, Source};
-pub use causes::delivery_of;
-pub use difference::elements_between;
-pub use help::Help;
+pub use document::{put_end, put_escaped, put_start};
 pub use json::put_json;
-pub use no::No;
+pub use layout::{put, put_count, put_cut, put_head, put_size, small};
 pub use page::put_words;
-pub use put::{put_line, put_name};
+pub use quotes::{put_line, put_name};
+pub use remedies::shown;
 pub use sequence::put_sequence;
-pub use told::{Purpose, Told};
+pub use view::View;

@@ -1,56 +1,55 @@
 //! The explanation as text.
-use crate::case::Case;
 use crate::causes::{put_order, put_update};
-use crate::help::put_help;
-use crate::no::No;
-use crate::put::{put_act, put_line};
+use crate::layout::{put, put_cut, put_head};
+use crate::pass::put_pass;
 use crate::query::put_query;
-use crate::seen::put_seen;
-use crate::yes::{put_refused, put_yes};
-use ra_explain_common::{put, put_cut, put_head};
+use crate::quotes::{put_act, put_line};
+use crate::rejected::put_refused;
+use crate::remedies::put_remedies;
+use crate::shares::put_shares;
+use crate::view::View;
+use ra_explain::Violation;
 use ra_history_lines::number::put_numbered;
 use ra_labels::{Cause, NoMemory};
-use ra_monitor::Report;
 
-/// Appends the explanation of a checked history.
-pub fn put_words(
-    out: &mut Vec<u8>,
-    case: &Case<'_>,
-    report: &Report,
-    no: Option<&No<'_>>,
-) -> Result<(), NoMemory> {
+/// Appends the explanation as text.
+pub fn put_words(out: &mut Vec<u8>, view: &View<'_>) -> Result<(), NoMemory> {
     let mut words = Vec::new(*out.allocator());
-    match no {
-        Some(no) => {
-            put_no(&mut words, case, no)?;
-            put_refused(&mut words, case, report.refused)?;
+    match &view.explanation.violation {
+        Some(violation) => {
+            put_violation(&mut words, view, violation)?;
+            put_refused(&mut words, view)?;
         }
-        None => put_yes(&mut words, case, report)?,
+        None => put_pass(&mut words, view)?,
     }
     put_cut(out, &words)
 }
 
-fn put_no(out: &mut Vec<u8>, case: &Case<'_>, no: &No<'_>) -> Result<(), NoMemory> {
-    put_sentence(out, case, no)?;
-    match no.fault.cause {
-        Cause::Query => put_query(out, case, no)?,
-        Cause::Order => put_order(out, case, no)?,
-        Cause::Update => put_update(out, case, no)?,
+fn put_violation(
+    out: &mut Vec<u8>,
+    view: &View<'_>,
+    violation: &Violation,
+) -> Result<(), NoMemory> {
+    put_sentence(out, view, violation)?;
+    match violation.fault.cause {
+        Cause::Query => put_query(out, view, violation)?,
+        Cause::Order => put_order(out, view, violation)?,
+        Cause::Update => put_update(out, view, violation)?,
     }
-    put_seen(out, case, no)?;
-    put_help(out, case, no)
+    put_shares(out, view, violation)?;
+    put_remedies(out, view, violation)
 }
 
 // Appends the line, the label, the report, and the reason of the violation.
-fn put_sentence(out: &mut Vec<u8>, case: &Case<'_>, no: &No<'_>) -> Result<(), NoMemory> {
+fn put_sentence(out: &mut Vec<u8>, view: &View<'_>, violation: &Violation) -> Result<(), NoMemory> {
     put(out, "\n")?;
-    put_line(out, no.place)?;
-    put_numbered(out, b" is a violation (label ", no.fault.label)?;
+    put_line(out, violation.place)?;
+    put_numbered(out, b" is a violation (label ", violation.fault.label)?;
     put(out, "): ")?;
-    put(out, reason(no.fault.cause))?;
+    put(out, reason(violation.fault.cause))?;
     put(out, "\n\n")?;
     put_head(out, "reported")?;
-    put_act(out, case, no.command)?;
+    put_act(out, view, &violation.reported)?;
     put(out, "\n")
 }
 

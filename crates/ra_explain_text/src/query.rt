@@ -1,11 +1,10 @@
 //! The reported result and the expected one.
-use crate::act::{elements_of, put_elements};
-use crate::case::Case;
-use crate::difference::place_between;
-use crate::no::No;
-use crate::put::put_act;
+use crate::elements::put_elements;
+use crate::layout::{put, put_head, put_size};
+use crate::quotes::put_act;
 use crate::unmet::put_unmet;
-use ra_explain_common::{put, put_head, put_size};
+use crate::view::View;
+use ra_explain::{Difference, Violation, operation_in};
 use ra_history_lines::number::put_number;
 use ra_labels::{Command, NoMemory, Op};
 
@@ -15,44 +14,69 @@ const FAR: usize = 8;
 const BEFORE: usize = 3;
 
 /// Appends the expected result, and the first difference between the two; or, if no result is possible, the obstacle.
-pub fn put_query(out: &mut Vec<u8>, case: &Case<'_>, no: &No<'_>) -> Result<(), NoMemory> {
-    let Some(right) = &no.why.right else {
-        return put_unmet(out, case, no);
+pub fn put_query(
+    out: &mut Vec<u8>,
+    view: &View<'_>,
+    violation: &Violation,
+) -> Result<(), NoMemory> {
+    let Some(expected) = &violation.expected else {
+        return put_unmet(out, view, violation);
     };
     put_head(out, "expected")?;
-    put_act(out, case, right)?;
+    put_act(out, view, expected)?;
     put(out, "\n")?;
-    match right {
-        Command::Operate { op, .. } => put_difference(out, no.op, op),
-        Command::Deliver { .. } | Command::Join { .. } | Command::Verdict => Ok(()),
+    put_difference(out, violation)
+}
+
+// Two list reads are compared by their first difference, and two sets by the missing and the unexpected elements.
+fn put_difference(out: &mut Vec<u8>, violation: &Violation) -> Result<(), NoMemory> {
+    match &violation.difference {
+        Some(Difference::At(place)) => put_first(
+            out,
+            list_in(Some(&violation.reported)),
+            list_in(violation.expected.as_ref()),
+            *place,
+        ),
+        Some(
+            Difference::Sets {
+                missing,
+                unexpected,
+            },
+        ) => {
+            put_list(out, "missing", missing)?;
+            put_list(out, "unexpected", unexpected)
+        }
+        None => Ok(()),
     }
 }
 
-// Two list reads are compared by their first difference, and two sets by the missing and the surplus elements.
-fn put_difference(out: &mut Vec<u8>, told: &Op, right: &Op) -> Result<(), NoMemory> {
-    match (told, right) {
-        (Op::RgaRead(told), Op::RgaRead(right)) => {
-            put_first(out, told.as_slice(), right.as_slice())
-        }
-        _ => put_missing(out, elements_of(told), elements_of(right)),
+// Returns the list that the command reads, or an empty one.
+fn list_in(command: Option<&Command>) -> &[u32] {
+    match command.and_then(operation_in) {
+        Some(Op::RgaRead(list)) => list.as_slice(),
+        _ => &[],
     }
 }
 
 // Appends the first difference of two lists, counted from 1.
-fn put_first(out: &mut Vec<u8>, told: &[u32], right: &[u32]) -> Result<(), NoMemory> {
-    let place = place_between(told, right);
+fn put_first(
+    out: &mut Vec<u8>,
+    reported: &[u32],
+    expected: &[u32],
+    place: usize,
+) -> Result<(), NoMemory> {
     put_head(out, "differs")?;
     put(out, "at position ")?;
     put_size(out, place.saturating_add(1))?;
     put(out, ": ")?;
-    put_at(out, "got ", told.get(place).copied())?;
-    put_at(out, ", expected ", right.get(place).copied())?;
+    put_at(out, "got ", reported.get(place).copied())?;
+    put_at(out, ", expected ", expected.get(place).copied())?;
     put(out, "\n")?;
     if place < FAR {
         return Ok(());
     }
-    put_round(out, "got there", told, place)?;
-    put_round(out, "expected there", right, place)
+    put_round(out, "got there", reported, place)?;
+    put_round(out, "expected there", expected, place)
 }
 
 // Appends the elements of a long list around this index.
@@ -72,27 +96,6 @@ fn put_at(out: &mut Vec<u8>, words: &str, element: Option<u32>) -> Result<(), No
         Some(element) => put_number(out, element),
         None => put(out, "the end of the list"),
     }
-}
-
-// Appends the missing and the surplus elements of two ascending lists.
-fn put_missing(out: &mut Vec<u8>, told: &[u32], right: &[u32]) -> Result<(), NoMemory> {
-    let alloc = *out.allocator();
-    let mut missing = Vec::new(alloc);
-    let mut more = Vec::new(alloc);
-    add_others(&mut missing, right, told)?;
-    add_others(&mut more, told, right)?;
-    put_list(out, "missing", &missing)?;
-    put_list(out, "unexpected", &more)
-}
-
-// Collects the elements of the first ascending list that are not in the second one.
-fn add_others(found: &mut Vec<u32>, list: &[u32], others: &[u32]) -> Result<(), NoMemory> {
-    for element in list {
-        if others.binary_search(element).is_err() {
-            found.push(*element)?;
-        }
-    }
-    Ok(())
 }
 
 fn put_list(out: &mut Vec<u8>, words: &str, elements: &[u32]) -> Result<(), NoMemory> {

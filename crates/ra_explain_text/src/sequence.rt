@@ -1,7 +1,7 @@
 //! The sequence that linearizes the history.
-use crate::put::put_line_number;
+use crate::layout::put;
+use crate::quotes::put_line_number;
 use ra_explain::Places;
-use ra_explain_common::put;
 use ra_history_lines::number::put_number;
 use ra_labels::NoMemory;
 use ra_monitor::{Half, Monitor};

@@ -1,8 +1,8 @@
-//! The right answers of violating labels, in worked examples.
+//! The expected answers of violating labels, in worked examples.
 
 use crate::commands::{reply_behind, reporter_of};
 use crate::rows::{Step, command_of};
-use ra_explain::right_answer;
+use ra_explain::{Explanation, Purpose};
 use ra_labels::{Command, Kind, Op};
 use ra_monitor::Monitor;
 use std::alloc::Global;
@@ -13,7 +13,7 @@ struct Row {
     name: &'static str,
     kind: Kind,
     says: &'static [Step],
-    right: Option<Step>,
+    expected: Option<Step>,
 }
 
 static ROWS: [Row; 14] = [
@@ -21,7 +21,7 @@ static ROWS: [Row; 14] = [
         name: "a counter that was read before an increment counted",
         kind: Kind::Counter,
         says: &[Step::Inc(0), Step::Got(1, 0), Step::Read(1, 0)],
-        right: Some(Step::Read(1, 1)),
+        expected: Some(Step::Read(1, 1)),
     },
     Row {
         name: "a counter that counts what did not come",
@@ -34,7 +34,7 @@ static ROWS: [Row; 14] = [
             Step::Got(2, 1),
             Step::Read(2, 1),
         ],
-        right: Some(Step::Read(2, 0)),
+        expected: Some(Step::Read(2, 0)),
     },
     Row {
         name: "a register that keeps the older write",
@@ -45,13 +45,13 @@ static ROWS: [Row; 14] = [
             Step::Got(0, 1),
             Step::Last(0, Some(7)),
         ],
-        right: Some(Step::Last(0, Some(9))),
+        expected: Some(Step::Last(0, Some(9))),
     },
     Row {
         name: "a register that nothing was written to",
         kind: Kind::Register,
         says: &[Step::Write(0, 7, 1), Step::Last(1, Some(7))],
-        right: Some(Step::Last(1, None)),
+        expected: Some(Step::Last(1, None)),
     },
     Row {
         name: "an LWW set that lacks an element",
@@ -61,7 +61,7 @@ static ROWS: [Row; 14] = [
             Step::Add(0, 2, 2),
             Step::Elements(0, &[4]),
         ],
-        right: Some(Step::Elements(0, &[2, 4])),
+        expected: Some(Step::Elements(0, &[2, 4])),
     },
     Row {
         name: "an LWW set that shows what was removed later",
@@ -72,7 +72,7 @@ static ROWS: [Row; 14] = [
             Step::Got(0, 1),
             Step::Elements(0, &[4]),
         ],
-        right: Some(Step::Elements(0, &[])),
+        expected: Some(Step::Elements(0, &[])),
     },
     Row {
         name: "an OR-Set that lacks an element, which is there twice",
@@ -85,7 +85,7 @@ static ROWS: [Row; 14] = [
             Step::Got(0, 2),
             Step::OrRead(0, &[2]),
         ],
-        right: Some(Step::OrRead(0, &[2, 4])),
+        expected: Some(Step::OrRead(0, &[2, 4])),
     },
     Row {
         name: "a removal from an OR-Set that leaves an identifier out",
@@ -98,7 +98,7 @@ static ROWS: [Row; 14] = [
             Step::Got(0, 2),
             Step::OrRemove(0, 4, &[2]),
         ],
-        right: Some(Step::OrRemove(0, 4, &[1, 2])),
+        expected: Some(Step::OrRemove(0, 4, &[1, 2])),
     },
     Row {
         name: "a list that is shown in another order",
@@ -109,7 +109,7 @@ static ROWS: [Row; 14] = [
             Step::After(0, 1, 3, 3),
             Step::RgaRead(0, &[1, 2, 3]),
         ],
-        right: Some(Step::RgaRead(0, &[1, 3, 2])),
+        expected: Some(Step::RgaRead(0, &[1, 3, 2])),
     },
     Row {
         name: "a list that shows what was removed",
@@ -120,7 +120,7 @@ static ROWS: [Row; 14] = [
             Step::RgaRemove(0, 1),
             Step::RgaRead(0, &[1, 2]),
         ],
-        right: Some(Step::RgaRead(0, &[2])),
+        expected: Some(Step::RgaRead(0, &[2])),
     },
     Row {
         name: "a list whose replica has not what its element stands behind, so that no answer would do",
@@ -130,37 +130,27 @@ static ROWS: [Row; 14] = [
             Step::After(1, 1, 2, 2),
             Step::RgaRead(1, &[2]),
         ],
-        right: None,
+        expected: None,
     },
     Row {
         name: "an update that is not admitted, which asks nothing",
         kind: Kind::Rga,
         says: &[Step::After(0, 5, 6, 1)],
-        right: None,
+        expected: None,
     },
     Row {
         name: "a stamp below one that was seen",
         kind: Kind::Register,
         says: &[Step::Write(0, 7, 5), Step::Got(1, 0), Step::Write(1, 9, 3)],
-        right: None,
+        expected: None,
     },
     Row {
         name: "no fault",
         kind: Kind::Counter,
         says: &[Step::Inc(0), Step::Got(1, 0), Step::Read(1, 1)],
-        right: None,
+        expected: None,
     },
 ];
-
-// Returns what the label at the monitor's fault had to be. If an allocation fails, it is computed once more.
-fn told(rt: &impl Abort, alloc: Global, monitor: &Monitor) -> Option<Op> {
-    for _attempt in 0..2 {
-        if let Ok(right) = right_answer(alloc, monitor) {
-            return right;
-        }
-    }
-    panic!(rt; "no memory")
-}
 
 // Returns the operation of this report.
 fn operation_of(rt: &impl Abort, alloc: Global, say: Step) -> Op {
@@ -170,30 +160,50 @@ fn operation_of(rt: &impl Abort, alloc: Global, say: Step) -> Op {
     }
 }
 
-// Asserts that this is the right answer, at the fault and after a further call, which has the same reply.
-fn is_told(rt: &impl Abort, alloc: Global, row: &Row) {
+// Returns the monitor of the row's history, after this many further calls.
+fn monitor_of(rt: &impl Abort, alloc: Global, row: &Row, calls: u32) -> Monitor {
     let mut reporter = reporter_of(rt, alloc, row.kind, 3, 100);
     for say in row.says {
         reply_behind(rt, &mut reporter, command_of(rt, alloc, *say), None);
     }
-    for _call in 0..2 {
-        is_right(rt, alloc, reporter.monitor(), row);
+    for _call in 0..calls {
         reply_behind(rt, &mut reporter, Command::Verdict, None);
+    }
+    reporter.into_monitor()
+}
+
+// Returns the command with the expected answer. If an allocation fails, it is computed once more.
+fn expected_of(rt: &impl Abort, alloc: Global, row: &Row, calls: u32) -> Option<Command> {
+    for _attempt in 0..2 {
+        let monitor = monitor_of(rt, alloc, row, calls);
+        if let Ok(explanation) = Explanation::of(alloc, monitor, Purpose::Object) {
+            return match explanation.violation {
+                Some(violation) => violation.expected,
+                None => None,
+            };
+        }
+    }
+    panic!(rt; "no memory")
+}
+
+// Asserts that this is the expected answer, at the fault and after a further call, which has the same reply.
+fn is_expected(rt: &impl Abort, alloc: Global, row: &Row) {
+    for calls in 0..2 {
+        let expected = match expected_of(rt, alloc, row, calls) {
+            Some(Command::Operate { op, .. }) => Some(op),
+            _ => None,
+        };
+        let want = match row.expected {
+            Some(say) => Some(operation_of(rt, alloc, say)),
+            None => None,
+        };
+        assert!(rt; expected == want, "{}", row.name);
     }
 }
 
-fn is_right(rt: &impl Abort, alloc: Global, monitor: &Monitor, row: &Row) {
-    let right = told(rt, alloc, monitor);
-    let want = match row.right {
-        Some(say) => Some(operation_of(rt, alloc, say)),
-        None => None,
-    };
-    assert!(rt; right == want, "{}", row.name);
-}
-
 #[test]
-fn a_no_is_told_the_right_answer(rt: HostRuntime) {
+fn a_violation_has_the_expected_answer(rt: HostRuntime) {
     for row in &ROWS {
-        is_told(&rt, rt.alloc(), row);
+        is_expected(&rt, rt.alloc(), row);
     }
 }

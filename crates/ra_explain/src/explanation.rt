@@ -1,0 +1,222 @@
+//! The explanation of a monitor's history, as plain data.
+ghost use Rattle.std.specs.Prelude.{◌≡◌, IfOk, IfSome, MatchOption, None, Some, option_map, slice_get};
+ghost use Rattle.ra_labels.specs.Records.{replica_count};
+ghost use Rattle.ra_monitor.specs.Monitor.{fault_in, records_of};
+ghost use Rattle.ra_explain.specs.Explanation.{IsDelivery, IsFound, HoldWith, delivers, undelivered_for};
+ghost use Rattle.ra_explain.specs.Origin as origin;
+ghost use Rattle.ra_explain.specs.Places.{places_in};
+ghost use Rattle.ra_explain.specs.Rejected.{first_rejected};
+
+use crate::origin::{Origin, operation_of, origin_of};
+use crate::places::{Places, entry_at};
+use crate::rejected::first_rejected;
+use crate::remedies::Remedies;
+use crate::undelivered::{Undelivered, undelivered_at_end};
+use crate::violation::Violation;
+use ra_journal::Entry;
+use ra_labels::{Command, NoMemory, Op, Reply};
+use ra_monitor::{Monitor, Report, Setup};
+use std::alloc::Global;
+
+/// The purpose of an explanation. It decides which lists are computed.
+#[derive(Clone, Copy, Debug, PartialEq, Eq)]
+pub enum Purpose {
+    /// Text, which shows for a pass what replicas lack, and for a violation all reasons.
+    Text,
+    /// An object, which shows in any case what replicas lack, and for a violation the expected answer.
+    Object,
+    /// A drawing, which shows for a violation the expected answer.
+    Drawing,
+}
+
+/// The explanation of a monitor's history: its log, what was not delivered, and the first violation with its reasons
+/// and remedies. Renderers need nothing else of the monitor.
+#[derive(Drop)]
+pub struct Explanation {
+    /// The monitor's setup.
+    pub setup: Setup,
+    /// The monitor's log.
+    pub log: Vec<Entry<Command, Reply>>,
+    /// The indices of the labels in the log.
+    pub places: Places,
+    /// The summary of the log.
+    pub report: Report,
+    /// The number of replicas.
+    pub replicas: u8,
+    /// What was not delivered to each replica at the end, by its number. Empty if the purpose does not need it.
+    pub undelivered: Vec<Undelivered>,
+    /// The indices of the first ten rejected entries of the log.
+    pub rejected: Vec<u32>,
+    /// The first violation, if there is one.
+    pub violation: Option<Violation>,
+    /// The changes of deliveries that were tried, and those with which the violating label would hold. Empty if there
+    /// is no violation.
+    pub remedies: Remedies,
+}
+
+impl Explanation {
+    /// Returns the explanation of the monitor's history. The monitor is reduced to its log before changed histories are
+    /// tried, so that its memory is available for them.
+    ///
+    /// # Errors
+    ///
+    /// `NoMemory` if an allocation fails.
+    ///
+    /// # Complexity
+    ///
+    /// One step for each entry of the log and one lookup for each label; if the purpose needs what was not delivered,
+    /// one lookup for each label and replica. For a violation also the cost of the named sequence and of
+    /// `Remedies::of`.
+    pub fn of(alloc: Global, monitor: Monitor, purpose: Purpose) -> Result<Explanation, NoMemory>
+        // The explanation has the setup of the given monitor.
+        ensures setup { IfOk result (λ it. it.setup ≡ monitor.setup) }
+        // The explanation has the log of the given monitor.
+        ensures log { IfOk result (λ it. it.log.items ≡ monitor.log) }
+        // The places are the indices of the labels in the log, by their numbers.
+        ensures places { IfOk result (λ it. it.places ≡ places_in monitor.log) }
+        // The number of replicas is that of the monitor, those that joined included.
+        ensures replicas { IfOk result (λ it.
+            it.replicas ≡ replica_count monitor.setup.replicas (records_of monitor.setup monitor.log)) }
+        // If the purpose needs it, the list has for each replica the number of the updates that were not delivered to
+        // it, and the oldest of them; otherwise it is empty.
+        ensures undelivered { IfOk result (λ it.
+            it.undelivered.items ≡ undelivered_for monitor.setup monitor.log purpose (fault_in monitor.setup monitor.log)) }
+        // The rejected entries are the first ten of the log whose reply is a rejection.
+        ensures rejected { IfOk result (λ it. it.rejected.items ≡ first_rejected monitor.log) }
+        // There is a violation exactly if the log has a fault. It has that label, its index, its replica and its
+        // command, the expected answer, the missing updates, and the labels with greater stamps.
+        ensures violation { IfOk result (λ it. MatchOption it.violation (fault_in monitor.setup monitor.log ≡ None)
+            (λ violation. IsFound monitor.setup monitor.log purpose violation)) }
+        // The remedies are exactly those of the tried changes with which the violating label would hold.
+        ensures remedies { IfOk result (λ it. IfSome it.violation (λ violation.
+            HoldWith monitor.setup monitor.log violation.place it.remedies)) }
+    {
+        let places = Places::of(alloc, &monitor)?;
+        let undelivered = undelivered_for(alloc, &monitor, &places, purpose)?;
+        let rejected = first_rejected(alloc, &monitor)?;
+        let violation = match monitor.report().fault {
+            Some(fault) => Some(Violation::of(alloc, &monitor, &places, fault, purpose)?),
+            None => None,
+        };
+        let setup = monitor.setup();
+        let report = monitor.report();
+        let replicas = monitor.replicas();
+        let log = monitor.into_log();
+        Ok(Explanation {
+            remedies: remedies_for(alloc, &setup, &log, &places, &violation)?,
+            setup,
+            log,
+            places,
+            report,
+            replicas,
+            undelivered,
+            rejected,
+            violation,
+        })
+    }
+
+    /// Returns the entry at this index of the log, or `None` if there is none.
+    pub fn entry(&self, place: u32) -> Option<&Entry<Command, Reply>>
+        // The result is the entry at this index of the log, or `None` exactly if there is none.
+        ensures { MatchOption result (slice_get self.now.log.items place ≡ None)
+            (λ entry. slice_get self.now.log.items place ≡ Some entry.now) }
+    {
+        entry_at(&self.log, place)
+    }
+
+    /// Returns the operation of the label, or `None` if there is no such label.
+    pub fn operation(&self, label: u32) -> Option<&Op>
+        // The result is the operation of the label in the log, or `None` exactly if there is no such label.
+        ensures { MatchOption result
+            (origin.operation_of self.now.log.items self.now.places label ≡ None)
+            (λ op. origin.operation_of self.now.log.items self.now.places label ≡ Some op.now) }
+    {
+        operation_of(&self.log, &self.places, label)
+    }
+
+    /// Returns the origin of the label, or `None` if there is no such label.
+    pub fn origin(&self, label: u32) -> Option<Origin>
+        // The result has the replica, the clock and the sort of the label's operation in the log, or is `None` exactly
+        // if there is no such label.
+        ensures { result ≡ origin.origin_of self.now.log.items self.now.places label }
+    {
+        origin_of(&self.log, &self.places, label)
+    }
+
+    /// Returns the replica that issued the label, or `None` if there is no such label.
+    pub fn issuer(&self, label: u32) -> Option<u8>
+        // The result is the replica of the label's operation in the log, or `None` exactly if there is no such label.
+        ensures { result ≡ option_map (λ it. it.replica)
+            (origin.origin_of self.now.log.items self.now.places label) }
+    {
+        self.origin(label).map(|origin| origin.replica)
+    }
+
+    /// Returns the index of the entry that delivered the label to the replica, or `None` if there is none: the replica
+    /// issued the label, joined with it, or lacks it.
+    ///
+    /// # Complexity
+    ///
+    /// O(number of entries).
+    pub fn delivery(&self, replica: u8, label: u32) -> Option<u32>
+        // The entry at this index of the log is an accepted delivery of the label to the replica.
+        ensures { IfSome result (IsDelivery self.now.log.items replica label) }
+    {
+        for (place, entry) in self.log.iter().enumerate() {
+            if delivers(entry, replica, label) {
+                return u32::try_from(place).ok();
+            }
+        }
+        None
+    }
+}
+
+// Returns `true` if the entry is an accepted delivery of the label to the replica.
+fn delivers(entry: &Entry<Command, Reply>, replica: u8, label: u32) -> bool
+    ensures { result ≡ delivers entry.now replica label }
+{
+    match (&entry.command, entry.reply) {
+        (
+            Command::Deliver {
+                replica: to,
+                label: it,
+            },
+            Reply::Got(_),
+        ) => *to == replica && *it == label,
+        _ => false,
+    }
+}
+
+// Returns what was not delivered to each replica, if the purpose needs it.
+fn undelivered_for(
+    alloc: Global,
+    monitor: &Monitor,
+    places: &Places,
+    purpose: Purpose,
+) -> Result<Vec<Undelivered>, NoMemory>
+    requires { places.now ≡ places_in monitor.now.log }
+    ensures { IfOk result (λ all. all.items ≡ undelivered_for monitor.now.setup monitor.now.log purpose
+        (fault_in monitor.now.setup monitor.now.log)) }
+{
+    match (purpose, monitor.report().fault) {
+        (Purpose::Object, _) | (Purpose::Text, None) => undelivered_at_end(alloc, monitor, places),
+        (Purpose::Text, Some(_)) | (Purpose::Drawing, _) => Ok(Vec::new(alloc)),
+    }
+}
+
+// Tries changes with which the violating label would hold, if there is one.
+fn remedies_for(
+    alloc: Global,
+    setup: &Setup,
+    log: &[Entry<Command, Reply>],
+    places: &Places,
+    violation: &Option<Violation>,
+) -> Result<Remedies, NoMemory>
+    ensures { IfOk result (λ remedies. IfSome violation.now (λ violation.
+        HoldWith setup.now log.now violation.place remedies)) }
+{
+    match violation {
+        Some(violation) => Remedies::of(alloc, setup, log, places, violation),
+        None => Ok(Remedies::new(alloc)),
+    }
+}
