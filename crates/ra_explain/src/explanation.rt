@@ -3,7 +3,7 @@ ghost use Rattle.std.specs.Prelude.{◌≡◌, IfOk, IfSome, MatchOption, None, 
 ghost use Rattle.ra_labels.specs.Records.{replica_count};
 ghost use Rattle.ra_monitor.specs.Monitor.{fault_in, records_of};
 ghost use Rattle.ra_explain.specs.Explanation.{IsDelivery, IsFound, HoldWith, delivers, undelivered_for};
-ghost use Rattle.ra_explain.specs.Origin as origin;
+ghost use Rattle.ra_explain.specs.Origin.{operation_of, origin_of};
 ghost use Rattle.ra_explain.specs.Places.{places_in};
 ghost use Rattle.ra_explain.specs.Rejected.{first_rejected};
 
@@ -128,8 +128,8 @@ impl Explanation {
     pub fn operation(&self, label: u32) -> Option<&Op>
         // The result is the operation of the label in the log, or `None` exactly if there is no such label.
         ensures { MatchOption result
-            (origin.operation_of self.now.log.items self.now.places label ≡ None)
-            (λ op. origin.operation_of self.now.log.items self.now.places label ≡ Some op.now) }
+            (operation_of self.now.log.items self.now.places label ≡ None)
+            (λ op. operation_of self.now.log.items self.now.places label ≡ Some op.now) }
     {
         operation_of(&self.log, &self.places, label)
     }
@@ -138,7 +138,7 @@ impl Explanation {
     pub fn origin(&self, label: u32) -> Option<Origin>
         // The result has the replica, the clock and the sort of the label's operation in the log, or is `None` exactly
         // if there is no such label.
-        ensures { result ≡ origin.origin_of self.now.log.items self.now.places label }
+        ensures { result ≡ origin_of self.now.log.items self.now.places label }
     {
         origin_of(&self.log, &self.places, label)
     }
@@ -147,7 +147,7 @@ impl Explanation {
     pub fn issuer(&self, label: u32) -> Option<u8>
         // The result is the replica of the label's operation in the log, or `None` exactly if there is no such label.
         ensures { result ≡ option_map (λ it. it.replica)
-            (origin.origin_of self.now.log.items self.now.places label) }
+            (origin_of self.now.log.items self.now.places label) }
     {
         self.origin(label).map(|origin| origin.replica)
     }

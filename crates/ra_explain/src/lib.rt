@@ -1,11 +1,10 @@
-//! The reasons of a violation: what the violating label had to return, and which changes remove the violation.
+//! The explanation of a monitor's history as plain data.
 //!
-//! The contract for the layers above: `expected_answer` returns the operation that a monitor's violating label had to be,
-//! if its query fails. It is the specification's answer after the updates delivered to its replica, in the named order
-//! (`specs/Expected`). Of changes to what was delivered to that replica, `changes_that_help` returns those with which a
-//! trial of `ra_monitor` accepts the label (`specs/Changes`). `Places` maps each label to its index in a monitor's log,
-//! and `find_labels` and `labels_with` return the labels of one sort. The expected answer is computed from the log, the
-//! named sequence and the plain specification (`ra_seqspec`), without a second witness.
+//! The contract for the layers above: `Explanation::of` consumes a monitor and returns its log, what was not delivered,
+//! and the first violation with its reasons and remedies (`specs/Explanation`). The expected answer is computed from the
+//! log, the named sequence and the plain specification (`ra_seqspec`), without a second witness (`specs/Expected`).
+//! Remedies are changes of deliveries with which a trial of `ra_monitor` accepts the label (`specs/Changes`).
+//! `labels_with` returns the labels of one sort among those of a log.
 #![tactic(auto)]
 
 mod changes;

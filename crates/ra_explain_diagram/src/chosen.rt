@@ -128,7 +128,10 @@ fn add_differing(
 // the first unexpected element, of a removal its own element.
 fn differing_elements(violation: &Violation) -> (Option<u32>, Option<u32>) {
     let reported = operation_in(&violation.reported);
-    let expected = violation.expected.as_ref().and_then(operation_in);
+    let expected = match &violation.expected {
+        Some(command) => operation_in(command),
+        None => None,
+    };
     match (&violation.difference, reported, expected) {
         (Some(Difference::At(place)), Some(Op::RgaRead(reported)), Some(Op::RgaRead(expected))) => (
             reported.as_slice().get(*place).copied(),

@@ -1,10 +1,12 @@
 //! The event that a row of a picture shows.
-ghost use Rattle.std.specs.Prelude.{◌≡◌, IfOk, IfSome};
-ghost use Rattle.ra_explain_diagram.specs.Drawn.{IsOfLog, IsDrawn};
+ghost use Rattle.std.specs.Prelude.{◌≡◌, ◌++◌, false, IfOk, IfSome, OnOk};
+ghost use Rattle.ra_history_writer.specs.Spelling.{line_of};
+ghost use Rattle.ra_explain_diagram.specs.Drawn.{IsOfLog, IsViolating, IsEarlier, IsDelivered, IsDrawn, behind_space, event_words};
 
 use crate::drawing::{Row, ends_of};
 use ra_explain::Violation;
 use ra_explain_text::{View, put, put_line};
+use ra_history_lines::Names;
 use ra_history_lines::number::{put_number, put_numbered};
 use ra_history_writer::spelling::put_command;
 use ra_journal::Entry;
@@ -31,21 +33,6 @@ pub struct Event {
 }
 
 impl Event {
-    // Creates an event without a description, at this index of the log and at this replica.
-    fn new(alloc: Global, place: u32, to: Option<u8>) -> Event
-        ensures { (result.place ≡ place) × (result.to ≡ to) }
-    {
-        Event {
-            head: Vec::new(alloc),
-            words: Vec::new(alloc),
-            from: None,
-            to,
-            place,
-            is_dashed: false,
-            is_asked: false,
-        }
-    }
-
     /// Returns the event of this row, or `None` if entries are folded.
     pub fn of(
         alloc: Global,
@@ -53,14 +40,15 @@ impl Event {
         violation: &Violation,
         row: Row,
     ) -> Result<Option<Event>, NoMemory>
-        ensures folded { IfOk result (λ event. IfSome event (IsDrawn view.now.explanation.now.log.items row)) }
+        ensures drawn { IfOk result (λ event. IfSome event (IsDrawn view.now.names.now
+            view.now.explanation.now.log.items violation.now row)) }
     {
         match row {
             Row::Fold(_) => Ok(None),
             Row::Entry(place) => Event::at(alloc, view, place, false),
             Row::Without(place) => Event::at(alloc, view, place, true),
-            Row::Asked => Event::asked(alloc, view, violation, violation.place, false),
-            Row::Before(place) => Event::asked(alloc, view, violation, place, true),
+            Row::Asked => Event::asked(alloc, view.names, violation),
+            Row::Before(place) => Event::before(alloc, view.names, violation, place),
             Row::With(label) => Event::with(alloc, view, violation, label),
         }
     }
@@ -71,40 +59,73 @@ impl Event {
         place: u32,
         is_dashed: bool,
     ) -> Result<Option<Event>, NoMemory>
-        ensures { IfOk result (λ event. IfSome event (IsOfLog view.now.explanation.now.log.items place)) }
+        ensures { IfOk result (λ event. IfSome event (IsOfLog view.now.names.now
+            view.now.explanation.now.log.items place is_dashed)) }
     {
         let Some(entry) = view.explanation.entry(place) else {
             return Ok(None);
         };
         let (from, to) = ends_of(view, &entry.command);
-        let mut event = Event::new(alloc, place, to);
-        put_line(&mut event.head, place)?;
-        put_words(&mut event.words, view, entry)?;
-        event.from = from;
-        event.is_dashed = is_dashed;
-        Ok(Some(event))
+        let mut head = Vec::new(alloc);
+        put_line(&mut head, place)?;
+        let mut words = Vec::new(alloc);
+        put_words(&mut words, view.names, entry)?;
+        Ok(Some(Event {
+            head,
+            words,
+            from,
+            to,
+            place,
+            is_dashed,
+            is_asked: false,
+        }))
     }
 
-    // Returns the violating label, before the entry at this index.
-    fn asked(
+    // Returns the violating label.
+    fn asked(alloc: Global, names: &Names, violation: &Violation) -> Result<Option<Event>, NoMemory>
+        ensures { IfOk result (λ event. IfSome event (IsViolating names.now violation.now)) }
+    {
+        let mut head = Vec::new(alloc);
+        put_line(&mut head, violation.place)?;
+        let mut words = Vec::new(alloc);
+        put_numbered(&mut words, b"", violation.fault.label)?;
+        put(&mut words, "? ")?;
+        put_body(&mut words, names, &violation.reported)?;
+        Ok(Some(Event {
+            head,
+            words,
+            from: None,
+            to: Some(violation.replica),
+            place: violation.place,
+            is_dashed: false,
+            is_asked: true,
+        }))
+    }
+
+    // Returns the violating label as it would hold, before the entry at this index.
+    fn before(
         alloc: Global,
-        view: &View<'_>,
+        names: &Names,
         violation: &Violation,
         place: u32,
-        is_dashed: bool,
-    ) -> Result<Option<Event>, NoMemory> {
-        let mut event = Event::new(alloc, place, Some(violation.replica));
-        if is_dashed {
-            put(&mut event.head, "or here")?;
-        } else {
-            put_line(&mut event.head, place)?;
-        }
-        put_number(&mut event.words, violation.fault.label)?;
-        put(&mut event.words, if is_dashed { ": " } else { "? " })?;
-        put_body(&mut event.words, view, &violation.reported)?;
-        event.is_dashed = is_dashed;
-        event.is_asked = true;
-        Ok(Some(event))
+    ) -> Result<Option<Event>, NoMemory>
+        ensures { IfOk result (λ event. IfSome event (IsEarlier names.now violation.now place)) }
+    {
+        let mut head = Vec::new(alloc);
+        put(&mut head, "or here")?;
+        let mut words = Vec::new(alloc);
+        put_numbered(&mut words, b"", violation.fault.label)?;
+        put(&mut words, ": ")?;
+        put_body(&mut words, names, &violation.reported)?;
+        Ok(Some(Event {
+            head,
+            words,
+            from: None,
+            to: Some(violation.replica),
+            place,
+            is_dashed: true,
+            is_asked: true,
+        }))
     }
 
     // Returns the delivery of this label just before the violating one.
@@ -113,42 +134,62 @@ impl Event {
         view: &View<'_>,
         violation: &Violation,
         label: u32,
-    ) -> Result<Option<Event>, NoMemory> {
-        let mut event = Event::new(alloc, violation.place, Some(violation.replica));
-        put(&mut event.head, "or with")?;
-        put_numbered(&mut event.words, b"got ", label)?;
-        event.from = view.explanation.issuer(label);
-        event.is_dashed = true;
-        Ok(Some(event))
+    ) -> Result<Option<Event>, NoMemory>
+        ensures { IfOk result (λ event. IfSome event (IsDelivered violation.now label)) }
+    {
+        let mut head = Vec::new(alloc);
+        put(&mut head, "or with")?;
+        let mut words = Vec::new(alloc);
+        put_numbered(&mut words, b"got ", label)?;
+        Ok(Some(Event {
+            head,
+            words,
+            from: view.explanation.issuer(label),
+            to: Some(violation.replica),
+            place: violation.place,
+            is_dashed: true,
+            is_asked: false,
+        }))
     }
 }
 
 // Appends what happened at the replica: a label with its number, or a delivery.
 fn put_words(
     out: &mut Vec<u8>,
-    view: &View<'_>,
+    names: &Names,
     entry: &Entry<Command, Reply>,
-) -> Result<(), NoMemory> {
+) -> Result<(), NoMemory>
+    ensures { OnOk result (out.new.items ≡ out.old.items ++ event_words names.now entry.now.reply entry.now.command) }
+{
     match entry.reply {
         Reply::Got(label) => put_numbered(out, b"got ", label),
         Reply::Joined(_) => put(out, "joins"),
         Reply::Ok(label) => {
             put_number(out, label)?;
             put(out, ": ")?;
-            put_body(out, view, &entry.command)
+            put_body(out, names, &entry.command)
         }
         Reply::Yes(_) | Reply::No { .. } | Reply::Refused(_) => Ok(()),
     }
 }
 
 // Appends the line of the command without the name of its replica.
-fn put_body(words: &mut Vec<u8>, view: &View<'_>, command: &Command) -> Result<(), NoMemory> {
-    let mut line = Vec::new(*words.allocator());
-    put_command(&mut line, view.names, command)?;
+fn put_body(out: &mut Vec<u8>, names: &Names, command: &Command) -> Result<(), NoMemory>
+    ensures { OnOk result (out.new.items ≡ out.old.items ++ behind_space false (line_of names.now command.now)) }
+{
+    let mut line = Vec::new(*out.allocator());
+    put_command(&mut line, names, command)?;
+    put_behind_space(out, &line)
+}
+
+// Appends the bytes behind the first space.
+fn put_behind_space(out: &mut Vec<u8>, line: &[u8]) -> Result<(), NoMemory>
+    ensures { OnOk result (out.new.items ≡ out.old.items ++ behind_space false line.now) }
+{
     let mut is_behind = false;
-    for byte in &line {
+    for byte in line {
         if is_behind {
-            words.push(*byte)?;
+            out.push(*byte)?;
         }
         is_behind = is_behind || *byte == b' ';
     }

@@ -1,5 +1,5 @@
 -- The explanation as a JSON object. A command is spelled as the writer of histories spells it.
-use Rattle.std.specs.Prelude.{ℕ, ◌+◌, Bool, true, false, ◌&&◌, List, [], ◌∷◌, ◌++◌, length, min, Option, Some, None, is_none, codes, decimal}
+use Rattle.std.specs.Prelude.{ℕ, Bool, true, false, ◌&&◌, List, [], ◌∷◌, ◌++◌, length, Option, Some, None, is_none, codes, decimal}
 use Rattle.std.specs.Option.{option_map_or}
 use Rattle.ra_labels.specs.declared.command.Command.{Command}
 use Rattle.ra_history_lines.specs.Replies.{cause_word}
@@ -19,11 +19,14 @@ abbrev pub expected_value : List (List ℕ) → Option Command → List ℕ
 expected_value names (Some command) = 34 ∷ (line_of names command ++ 34 ∷ [])
 expected_value names None = codes "null"
 
+abbrev pub change_member : Change → List ℕ
+change_member (Gets label) = codes "{\"gets\":" ++ decimal label
+change_member (Misses at) = codes "{\"misses_line\":" ++ decimal (line_number at)
+change_member (ComesBefore at) = codes "{\"comes_before_line\":" ++ decimal (line_number at)
+
 -- one remedy
 abbrev pub change_value : Change → List ℕ
-change_value (Gets label) = codes "{\"gets\":" ++ (decimal label ++ codes "}")
-change_value (Misses at) = codes "{\"misses_line\":" ++ (decimal (line_number at) ++ codes "}")
-change_value (ComesBefore at) = codes "{\"comes_before_line\":" ++ (decimal (line_number at) ++ codes "}")
+change_value change = change_member change ++ codes "}"
 
 -- each remedy with a comma (byte 44) before it
 abbrev pub more_changes : List Change → List ℕ
@@ -34,16 +37,24 @@ abbrev pub changes_value : List Change → List ℕ
 changes_value [] = []
 changes_value (change ∷ changes) = change_value change ++ more_changes changes
 
-abbrev pub violation_members : List (List ℕ) → Violation → Remedies → List ℕ
-violation_members names v remedies =
-    codes "{\"answer\":\"no\",\"label\":" ++ (decimal v.fault.label
+abbrev pub fault_members : Violation → List ℕ
+fault_members v = codes "{\"answer\":\"no\",\"label\":" ++ (decimal v.fault.label
     ++ (codes ",\"cause\":\"" ++ (cause_word v.fault.cause
-    ++ (codes "\",\"line\":" ++ (decimal (line_number v.place)
-    ++ (codes ",\"replica\":\"" ++ (name_of names v.replica
+    ++ (codes "\",\"line\":" ++ decimal (line_number v.place)))))
+
+-- the replica, the reported command, and the expected one
+abbrev pub command_members : List (List ℕ) → Violation → List ℕ
+command_members names v = codes ",\"replica\":\"" ++ (name_of names v.replica
     ++ (codes "\",\"told\":\"" ++ (line_of names v.reported
-    ++ (codes "\",\"right\":" ++ (expected_value names v.expected
-    ++ (codes ",\"would_be_right\":[" ++ (changes_value remedies.found.items
-    ++ (codes "],\"tried\":" ++ size_word (length remedies.tried.items)))))))))))))))
+    ++ (codes "\",\"right\":" ++ expected_value names v.expected))))
+
+-- the remedies, and how many changes were tried
+abbrev pub remedies_members : Remedies → List ℕ
+remedies_members remedies = codes ",\"would_be_right\":[" ++ (changes_value remedies.found.items
+    ++ (codes "],\"tried\":" ++ size_word (length remedies.tried.items)))
+
+abbrev pub violation_members : List (List ℕ) → Violation → Remedies → List ℕ
+violation_members names v remedies = fault_members v ++ (command_members names v ++ remedies_members remedies)
 
 -- ---- a pass
 
@@ -69,7 +80,7 @@ opening false = codes ",\""
 abbrev pub lack_member : List (List ℕ) → Bool → Undelivered → ℕ → List ℕ
 lack_member names is_first lack oldest =
     opening is_first ++ (name_of names lack.replica ++ (codes "\":{\"updates\":" ++ (size_word lack.updates
-    ++ (codes ",\"oldest\":" ++ (decimal oldest ++ codes "}")))))
+    ++ ((codes ",\"oldest\":" ++ decimal oldest) ++ codes "}"))))
 
 -- the same of a replica that may lack none
 abbrev pub lack_text : List (List ℕ) → Bool → Undelivered → List ℕ
@@ -90,6 +101,6 @@ answer_members names e None = pass_members e.report.labels
 -- the object of an explanation, with a line feed
 abbrev pub object_of : List (List ℕ) → Explanation → List ℕ
 object_of names e = answer_members names e e.violation
-    ++ (codes ",\"refused\":" ++ (decimal e.report.refused
+    ++ ((codes ",\"refused\":" ++ decimal e.report.refused)
     ++ (codes ",\"refused_lines\":[" ++ (lines_value e.rejected.items
-    ++ (codes "],\"lacks\":{" ++ (lacks_members names true e.undelivered.items ++ codes "}}\n"))))))
+    ++ (codes "],\"lacks\":{" ++ (lacks_members names true e.undelivered.items ++ codes "}}\n")))))

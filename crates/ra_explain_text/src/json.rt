@@ -1,13 +1,13 @@
 //! The explanation as one JSON object. Names and command lines consist of letters, digits, spaces and signs that need
 //! no escape.
-ghost use Rattle.std.specs.Prelude.{◌≡◌, ◌++◌, OnOk};
+ghost use Rattle.std.specs.Prelude.{◌≡◌, ◌++◌, true, OnOk};
 ghost use Rattle.ra_explain_text.specs.Json as json;
 ghost use Rattle.ra_explain_text.specs.Json.{object_of};
 
 use crate::layout::{put, put_size};
 use crate::quotes::{put_line_number, put_name};
 use crate::view::View;
-use ra_explain::{Change, Undelivered, Violation};
+use ra_explain::{Change, Remedies, Undelivered, Violation};
 use ra_history_lines::Names;
 use ra_history_lines::number::{put_number, put_numbered};
 use ra_history_lines::reply::cause_word;
@@ -30,16 +30,23 @@ pub fn put_json(out: &mut Vec<u8>, view: &View<'_>) -> Result<(), NoMemory>
         ≡ out.old.items ++ object_of view.now.names.now view.now.explanation.now) }
 {
     let it = view.explanation;
-    match &it.violation {
-        Some(violation) => put_violation(out, view, violation)?,
-        None => put_pass(out, it.report.labels)?,
-    }
+    put_answer(out, view)?;
     put_numbered(out, b",\"refused\":", it.report.refused)?;
     put(out, ",\"refused_lines\":[")?;
     put_lines(out, &it.rejected)?;
     put(out, "],\"lacks\":{")?;
     put_lacks(out, view.names, &it.undelivered)?;
     put(out, "}}\n")
+}
+
+fn put_answer(out: &mut Vec<u8>, view: &View<'_>) -> Result<(), NoMemory>
+    ensures { OnOk result (out.new.items ≡ out.old.items
+        ++ json.answer_members view.now.names.now view.now.explanation.now view.now.explanation.now.violation) }
+{
+    match &view.explanation.violation {
+        Some(violation) => put_violation(out, view, violation),
+        None => put_pass(out, view.explanation.report.labels),
+    }
 }
 
 fn put_pass(out: &mut Vec<u8>, labels: u32) -> Result<(), NoMemory>
@@ -52,21 +59,40 @@ fn put_violation(out: &mut Vec<u8>, view: &View<'_>, violation: &Violation) -> R
     ensures { OnOk result (out.new.items ≡ out.old.items
         ++ json.violation_members view.now.names.now violation.now view.now.explanation.now.remedies) }
 {
+    put_fault(out, violation)?;
+    put_commands(out, view.names, violation)?;
+    put_remedies(out, &view.explanation.remedies)
+}
+
+fn put_fault(out: &mut Vec<u8>, violation: &Violation) -> Result<(), NoMemory>
+    ensures { OnOk result (out.new.items ≡ out.old.items ++ json.fault_members violation.now) }
+{
     put_numbered(out, b"{\"answer\":\"no\",\"label\":", violation.fault.label)?;
     put(out, ",\"cause\":\"")?;
     put(out, cause_word(violation.fault.cause))?;
     put(out, "\",\"line\":")?;
-    put_line_number(out, violation.place)?;
+    put_line_number(out, violation.place)
+}
+
+// Appends the replica, the reported command and the expected one.
+fn put_commands(out: &mut Vec<u8>, names: &Names, violation: &Violation) -> Result<(), NoMemory>
+    ensures { OnOk result (out.new.items ≡ out.old.items ++ json.command_members names.now violation.now) }
+{
     put(out, ",\"replica\":\"")?;
-    put_name(out, view.names, violation.replica)?;
+    put_name(out, names, violation.replica)?;
     put(out, "\",\"told\":\"")?;
-    put_command(out, view.names, &violation.reported)?;
+    put_command(out, names, &violation.reported)?;
     put(out, "\",\"right\":")?;
-    put_expected(out, view.names, &violation.expected)?;
+    put_expected(out, names, &violation.expected)
+}
+
+fn put_remedies(out: &mut Vec<u8>, remedies: &Remedies) -> Result<(), NoMemory>
+    ensures { OnOk result (out.new.items ≡ out.old.items ++ json.remedies_members remedies.now) }
+{
     put(out, ",\"would_be_right\":[")?;
-    put_changes(out, &view.explanation.remedies.found)?;
+    put_changes(out, &remedies.found)?;
     put(out, "],\"tried\":")?;
-    put_size(out, view.explanation.remedies.tried.len())
+    put_size(out, remedies.tried.len())
 }
 
 fn put_expected(
@@ -102,7 +128,7 @@ fn put_more_changes(out: &mut Vec<u8>, changes: &[Change]) -> Result<(), NoMemor
     ensures { OnOk result (out.new.items ≡ out.old.items ++ json.more_changes changes.now) }
 {
     for change in changes {
-        put(out, ",")?;
+        out.push(b',')?;
         put_change(out, *change)?;
     }
     Ok(())
@@ -111,18 +137,24 @@ fn put_more_changes(out: &mut Vec<u8>, changes: &[Change]) -> Result<(), NoMemor
 fn put_change(out: &mut Vec<u8>, change: Change) -> Result<(), NoMemory>
     ensures { OnOk result (out.new.items ≡ out.old.items ++ json.change_value change) }
 {
+    put_change_member(out, change)?;
+    put(out, "}")
+}
+
+fn put_change_member(out: &mut Vec<u8>, change: Change) -> Result<(), NoMemory>
+    ensures { OnOk result (out.new.items ≡ out.old.items ++ json.change_member change) }
+{
     match change {
-        Change::Gets(label) => put_numbered(out, b"{\"gets\":", label)?,
+        Change::Gets(label) => put_numbered(out, b"{\"gets\":", label),
         Change::Misses(at) => {
             put(out, "{\"misses_line\":")?;
-            put_line_number(out, at)?;
+            put_line_number(out, at)
         }
         Change::ComesBefore(at) => {
             put(out, "{\"comes_before_line\":")?;
-            put_line_number(out, at)?;
+            put_line_number(out, at)
         }
     }
-    put(out, "}")
 }
 
 // Appends the numbers of the lines with these indices in the log.
@@ -142,7 +174,7 @@ fn put_more_lines(out: &mut Vec<u8>, places: &[u32]) -> Result<(), NoMemory>
     ensures { OnOk result (out.new.items ≡ out.old.items ++ json.more_lines places.now) }
 {
     for place in places {
-        put(out, ",")?;
+        out.push(b',')?;
         put_line_number(out, *place)?;
     }
     Ok(())
@@ -172,10 +204,17 @@ fn put_lack(
     ensures { OnOk result (out.new.items
         ≡ out.old.items ++ json.lack_member names.now is_first lack oldest) }
 {
-    put(out, if is_first { "\"" } else { ",\"" })?;
+    put(out, opening(is_first))?;
     put_name(out, names, lack.replica)?;
     put(out, "\":{\"updates\":")?;
     put_size(out, lack.updates)?;
     put_numbered(out, b",\"oldest\":", oldest)?;
     put(out, "}")
+}
+
+// Returns the beginning of a member of an object.
+fn opening(is_first: bool) -> &'static str
+    ensures { result.now ≡ json.opening is_first }
+{
+    if is_first { "\"" } else { ",\"" }
 }

@@ -1,8 +1,8 @@
-//! The explanation of a checked history: as text, as a JSON object, or as the sequence that linearizes it.
+//! Renderers of an explanation: words, a JSON object, and the sequence that linearizes the history.
 //!
-//! The contract for the layers above: each call returns, and the error `NoMemory` means that an allocation failed. The
-//! facts about a violation or a pass come from calls with clauses (`ra_explain`, `Monitor::sequence`). No clause states
-//! what a call appends to its buffer; stored pages and the model test that (`tests/explanations`).
+//! The contract for the layers above: each call returns, and the error `NoMemory` means that an allocation failed.
+//! `put_json` appends exactly the object of the explanation (`specs/Json`). No clause states what `put_words` and
+//! `put_sequence` append; stored pages and the model test that (`tests/explanations`).
 #![tactic(auto)]
 
 mod causes;

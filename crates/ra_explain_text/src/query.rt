@@ -4,7 +4,7 @@ use crate::layout::{put, put_head, put_size};
 use crate::quotes::put_act;
 use crate::unmet::put_unmet;
 use crate::view::View;
-use ra_explain::{Difference, Violation, operation_in};
+use ra_explain::{Difference, Violation};
 use ra_history_lines::number::put_number;
 use ra_labels::{Command, NoMemory, Op};
 
@@ -52,10 +52,16 @@ fn put_difference(out: &mut Vec<u8>, violation: &Violation) -> Result<(), NoMemo
 
 // Returns the list that the command reads, or an empty one.
 fn list_in(command: Option<&Command>) -> &[u32] {
-    match command.and_then(operation_in) {
-        Some(Op::RgaRead(list)) => list.as_slice(),
-        _ => &[],
-    }
+    let Some(
+        Command::Operate {
+            op: Op::RgaRead(list),
+            ..
+        },
+    ) = command
+    else {
+        return &[];
+    };
+    list.as_slice()
 }
 
 // Appends the first difference of two lists, counted from 1.
