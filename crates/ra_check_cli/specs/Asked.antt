@@ -1,8 +1,8 @@
 -- What the arguments request of a program that checks and has no bench.
 use Rattle.std.specs.Prelude.{Bool, Option, Some, None, option_and_then}
-use Rattle.ra_cli_common.specs.Arguments.{Words, asked_by}
-use Rattle.ra_cli_common.specs.declared.arguments.Run.{Run}
-use Rattle.ra_cli_common.specs.declared.arguments.Run.TheVariants.{Check, Bench}
+use Rattle.ra_cli_arguments.specs.Arguments.{Words, asked_by}
+use Rattle.ra_cli_arguments.specs.declared.arguments.Run.{Run}
+use Rattle.ra_cli_arguments.specs.declared.arguments.Run.TheVariants.{Check, Bench}
 
 -- whether a check has to print the report; none for a bench
 abbrev pub report_of : Run → Option Bool

@@ -5,7 +5,7 @@
 mod run;
 
 use crate::run::run;
-use ra_cli_common::words_of;
+use ra_cli_arguments::words_of;
 use std::io;
 use std::process::ExitCode;
 

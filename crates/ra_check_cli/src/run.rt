@@ -1,11 +1,12 @@
 //! The program as a function of its arguments, a reader and two writers.
 ghost use Rattle.std.specs.Prelude.{◌≡◌, ◌≢◌, Bool, None, Some};
-ghost use Rattle.ra_cli_common.specs.Arguments.{stop_words};
+ghost use Rattle.ra_cli_arguments.specs.Arguments.{stop_words};
 ghost use Rattle.ra_cli_common.specs.Endings.{StopsProgram};
 ghost use Rattle.ra_cli_common.specs.Check.{ChecksText};
 ghost use Rattle.ra_check_cli.specs.Asked.{report_asked_by};
 
-use ra_cli_common::{Ending, Run, WordsFault, run_check, run_of_kept, stop, usage};
+use ra_cli_arguments::{Run, WordsFault, run_of_kept};
+use ra_cli_common::{Ending, run_check, stop, usage};
 use ra_history_text::CheckFault;
 use std::alloc::Global;
 use std::io::{Read, Write};

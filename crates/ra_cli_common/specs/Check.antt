@@ -8,7 +8,7 @@ use Rattle.ra_history_text.specs.declared.limits.TheConstants.{MOST_READS}
 use Rattle.ra_history_text.specs.Faults.{check_fault_words}
 use Rattle.ra_history_text.specs.Output.{status_of}
 use Rattle.ra_history_text.specs.Run.{WritesAnswer, StopsCheck, HasGiven}
-use Rattle.ra_cli_common.specs.Report.{report_line}
+use Rattle.ra_cli_report.specs.Report.{report_line}
 use Rattle.ra_cli_common.specs.declared.ending.Ending.{Ending}
 use Rattle.ra_cli_common.specs.Endings.{ends_silently, EndsWithLine, StopsProgram}
 

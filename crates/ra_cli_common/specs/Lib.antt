@@ -1,4 +1,2 @@
-pub mod Arguments
-pub mod Report
 pub mod Endings
 pub mod Check

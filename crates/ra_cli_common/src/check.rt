@@ -1,6 +1,6 @@
 //! The run of a check, from a reader to an exit status.
 ghost use Rattle.std.specs.Prelude.{◌≡◌, ◌≢◌};
-ghost use Rattle.ra_cli_common.specs.Report.{report_line};
+ghost use Rattle.ra_cli_report.specs.Report.{report_line};
 ghost use Rattle.ra_cli_common.specs.Check.{status_of_outcome, ChecksText, EndsAnswered};
 ghost use Rattle.ra_cli_common.specs.Endings.{EndsWithLine};
 

@@ -2,9 +2,9 @@
 ghost use Rattle.std.specs.Prelude.{IfErr, OnOk};
 ghost use Rattle.std.specs.Io.KnownBytes.{Appends};
 ghost use Rattle.ra_history_text.specs.Written.{StopsLine};
-ghost use Rattle.ra_cli_common.specs.Report.{report_line};
+ghost use Rattle.ra_cli_report.specs.Report.{report_line};
 
-use crate::json::report_json;
+use ra_cli_report::report_json;
 use ra_history_text::{CheckFault, write_line};
 use ra_monitor::Report;
 use std::alloc::Global;

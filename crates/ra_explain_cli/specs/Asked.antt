@@ -1,6 +1,6 @@
 -- What the arguments request of a program that explains.
 use Rattle.std.specs.Prelude.{ℕ, not, List, [], ◌∷◌, map, Option, Some, None, Ok, Err, codes, string_bytes, bytes_eq, if◌then◌else◌}
-use Rattle.ra_cli_common.specs.Arguments.{Words}
+use Rattle.ra_cli_arguments.specs.Arguments.{Words}
 use Rattle.ra_explain_cli.specs.declared.asked.Form.{Form}
 use Rattle.ra_explain_cli.specs.declared.asked.Form.TheVariants.{Page, Json, Svg, Html, Sequence}
 

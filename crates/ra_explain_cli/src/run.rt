@@ -1,6 +1,6 @@
 //! The program as a function of its arguments, a reader and two writers.
 ghost use Rattle.std.specs.Prelude.{◌≡◌, ◌≢◌, None, Some};
-ghost use Rattle.ra_cli_common.specs.Arguments.{stop_words};
+ghost use Rattle.ra_cli_arguments.specs.Arguments.{stop_words};
 ghost use Rattle.ra_cli_common.specs.Endings.{StopsProgram};
 ghost use Rattle.ra_explain_cli.specs.declared.asked.Form.{Form};
 ghost use Rattle.ra_explain_cli.specs.Asked.{form_asked_by};
@@ -8,7 +8,8 @@ ghost use Rattle.ra_explain_cli.specs.Explained.{ExplainsText};
 
 use crate::asked::form_of;
 use crate::explain::explain;
-use ra_cli_common::{Ending, WordsFault, stop, usage};
+use ra_cli_arguments::WordsFault;
+use ra_cli_common::{Ending, stop, usage};
 use ra_history_text::CheckFault;
 use std::alloc::Global;
 use std::io::{Read, Write};

@@ -1,14 +1,15 @@
 //! The program as a function of its arguments, a bench, a reader and two writers.
 ghost use Rattle.std.specs.Prelude.{◌≡◌, ◌≢◌, ℕ, Bool, None, Some};
 ghost use Rattle.ra_labels.specs.declared.kind.Kind.{Kind};
-ghost use Rattle.ra_cli_common.specs.Arguments.{asked_by, stop_words};
+ghost use Rattle.ra_cli_arguments.specs.Arguments.{asked_by, stop_words};
 ghost use Rattle.ra_cli_common.specs.Endings.{StopsProgram};
 ghost use Rattle.ra_cli_common.specs.Check.{ChecksText};
-ghost use Rattle.ra_cli_common.specs.declared.arguments.Run.TheVariants.{Check, Bench};
+ghost use Rattle.ra_cli_arguments.specs.declared.arguments.Run.TheVariants.{Check, Bench};
 ghost use Rattle.ra_monitor_cli.specs.Program.{RunsBench};
 
 use crate::bench::{BenchAnswer, end_bench};
-use ra_cli_common::{Ending, Run, WordsFault, run_check, run_of_kept, stop, usage};
+use ra_cli_arguments::{Run, WordsFault, run_of_kept};
+use ra_cli_common::{Ending, run_check, stop, usage};
 use ra_history_text::CheckFault;
 use ra_labels::Kind;
 use std::alloc::Global;

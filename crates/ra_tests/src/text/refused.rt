@@ -4,7 +4,7 @@
 
 use super::histories::JOINED;
 use super::{REPLIES, SETS};
-use ra_cli_common::report_json;
+use ra_cli_report::report_json;
 use ra_history_text::{CheckFault, Item, LineFault, Names, NamesFault, Reading, check};
 use ra_labels::Kind;
 use ra_monitor::Report;

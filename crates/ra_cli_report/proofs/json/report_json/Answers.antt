@@ -1,9 +1,9 @@
 use Rattle.std.proofs.Common.{◌≡◌, false, ap, ◌∙◌, string_bytes}
 use Rattle.serde_json.specs.View.{view}
 use Rattle.serde_json.specs.Written.{has_float, compact_text}
-use Rattle.ra_cli_common.specs.Report.{report_data}
-use Rattle.ra_cli_common.proofs.Reports.{no_float, object_text}
-use Rattle.ra_cli_common.proofs.json.report_json.Goals as goal
+use Rattle.ra_cli_report.specs.Report.{report_data}
+use Rattle.ra_cli_report.proofs.Reports.{no_float, object_text}
+use Rattle.ra_cli_report.proofs.json.report_json.Goals as goal
 
 pub returns : goal.returns
 returns c =

@@ -1,7 +1,7 @@
 use Rattle.std.proofs.Common.{◌∙◌}
-use Rattle.ra_cli_common.specs.Arguments.{texts_of}
-use Rattle.ra_cli_common.proofs.AskedRuns.{asked_found, named_only}
-use Rattle.ra_cli_common.proofs.arguments.run_of.Goals as goal
+use Rattle.ra_cli_arguments.specs.Arguments.{texts_of}
+use Rattle.ra_cli_arguments.proofs.AskedRuns.{asked_found, named_only}
+use Rattle.ra_cli_arguments.proofs.arguments.run_of.Goals as goal
 
 pub returns-clause-found : goal.returns-clause-found
 returns-clause-found c = asked_found c.named.result (texts_of c.args.words.now) c.named.ensures

@@ -9,7 +9,7 @@ use Rattle.ra_labels.specs.declared.reply.Cause.{Cause}
 use Rattle.ra_labels.specs.declared.reply.Cause.TheVariants.{Order, Update, Query}
 use Rattle.ra_labels.specs.declared.reply.Fault.{Fault}
 use Rattle.ra_monitor.specs.declared.report.Report.{Report}
-use Rattle.ra_cli_common.specs.Report.{members_by_fault, members_data}
+use Rattle.ra_cli_report.specs.Report.{members_by_fault, members_data}
 
 -- a report from its parts
 abbrev report_of : Kind → ℕ → ℕ → ℕ → Option Fault → Report

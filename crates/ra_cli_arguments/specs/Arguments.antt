@@ -4,10 +4,10 @@ use Rattle.std.specs.Borrow.{Bor}
 use Rattle.std.specs.Global as global
 use Rattle.ra_history_lines.specs.Grammar.{kind_word}
 use Rattle.ra_history_lines.specs.Reading.{kind_named, number_read}
-use Rattle.ra_cli_common.specs.declared.arguments.Run.{Run}
-use Rattle.ra_cli_common.specs.declared.arguments.Run.TheVariants.{Check, Bench}
-use Rattle.ra_cli_common.specs.declared.arguments.WordsFault.{WordsFault}
-use Rattle.ra_cli_common.specs.declared.arguments.WordsFault.TheVariants.{NoMemory, NotText}
+use Rattle.ra_cli_arguments.specs.declared.arguments.Run.{Run}
+use Rattle.ra_cli_arguments.specs.declared.arguments.Run.TheVariants.{Check, Bench}
+use Rattle.ra_cli_arguments.specs.declared.arguments.WordsFault.{WordsFault}
+use Rattle.ra_cli_arguments.specs.declared.arguments.WordsFault.TheVariants.{NoMemory, NotText}
 
 -- ---- a check
 

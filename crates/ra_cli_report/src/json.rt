@@ -1,7 +1,7 @@
 //! The report as JSON.
 ghost use Rattle.std.specs.Prelude.{◌≡◌, IfOk, string_bytes};
 ghost use Rattle.serde_json.specs.View.{view};
-ghost use Rattle.ra_cli_common.specs.Report.{report_data, report_object};
+ghost use Rattle.ra_cli_report.specs.Report.{report_data, report_object};
 
 use ra_history_lines::kind_line::kind_word;
 use ra_history_lines::reply::cause_word;

@@ -1,2 +1,1 @@
-mod AskedRuns
 pub mod Reports

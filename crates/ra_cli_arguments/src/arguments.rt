@@ -1,8 +1,8 @@
 //! The command-line arguments.
 ghost use Rattle.std.specs.Prelude.{◌≡◌, IfSome, Some, map, string_bytes};
-ghost use Rattle.ra_cli_common.specs.Arguments.{are_of_bench, asked_by_one, asked_by_two, bench_read, byte_read};
-ghost use Rattle.ra_cli_common.specs.Arguments.{run_named, texts_of, AskFor};
-ghost use Rattle.ra_cli_common.specs.declared.arguments.Run.{Run};
+ghost use Rattle.ra_cli_arguments.specs.Arguments.{are_of_bench, asked_by_one, asked_by_two, bench_read, byte_read};
+ghost use Rattle.ra_cli_arguments.specs.Arguments.{run_named, texts_of, AskFor};
+ghost use Rattle.ra_cli_arguments.specs.declared.arguments.Run.{Run};
 
 use ra_history_lines::kind_line::kind_of_word;
 use ra_history_lines::number::number;
@@ -183,7 +183,7 @@ impl From<io::Error> for WordsFault {
     ghost use Rattle.std.specs.Prelude.{◌≡◌, ◌↔◌};
     ghost use Rattle.std.specs.IoError.{error_kind};
     ghost use Rattle.std.specs.declared.io.ErrorKind.TheVariants.{OutOfMemory};
-    ghost use Rattle.ra_cli_common.specs.declared.arguments.WordsFault.TheVariants.{NoMemory};
+    ghost use Rattle.ra_cli_arguments.specs.declared.arguments.WordsFault.TheVariants.{NoMemory};
 
     ghost from_gives = { λ error fault. (fault ≡ NoMemory) ↔ (error_kind error ≡ OutOfMemory) };
 
@@ -197,7 +197,7 @@ impl From<io::Error> for WordsFault {
 
 impl From<AllocError> for WordsFault {
     ghost use Rattle.std.specs.Prelude.{◌≡◌};
-    ghost use Rattle.ra_cli_common.specs.declared.arguments.WordsFault.TheVariants.{NoMemory};
+    ghost use Rattle.ra_cli_arguments.specs.declared.arguments.WordsFault.TheVariants.{NoMemory};
 
     ghost from_gives = { λ _ fault. fault ≡ NoMemory };
 

@@ -7,9 +7,9 @@ use Rattle.std.proofs.lemmas.Option.{option_and_then_some, cond_some}
 use Rattle.ra_history_lines.specs.Grammar.{kind_word}
 use Rattle.ra_history_lines.specs.Reading.{kind_named, number_read}
 use Rattle.ra_history_lines.proofs.TheoremIndex.{kind_word_read_iff-found, kind_word_read_iff-only, number_read_iff-found, number_read_iff-only, mapped, chosen}
-use Rattle.ra_cli_common.specs.declared.arguments.Run.{Run}
-use Rattle.ra_cli_common.specs.declared.arguments.Run.TheVariants.{Check, Bench}
-use Rattle.ra_cli_common.specs.Arguments.{asked_by_one, asked_by_two, are_of_bench, byte_read, bench_read, run_named, words_for, HasSmallNumbers, AskFor}
+use Rattle.ra_cli_arguments.specs.declared.arguments.Run.{Run}
+use Rattle.ra_cli_arguments.specs.declared.arguments.Run.TheVariants.{Check, Bench}
+use Rattle.ra_cli_arguments.specs.Arguments.{asked_by_one, asked_by_two, are_of_bench, byte_read, bench_read, run_named, words_for, HasSmallNumbers, AskFor}
 
 -- `None` is not `Some`
 none_is_some : {P : Type 0} {run : Run} → ◌≡◌ {A = Option Run} None (Some run) → P
