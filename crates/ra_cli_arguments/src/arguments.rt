@@ -1,7 +1,7 @@
 //! The command-line arguments.
 ghost use Rattle.std.specs.Prelude.{◌≡◌, IfSome, Some, map, string_bytes};
 ghost use Rattle.ra_cli_arguments.specs.Arguments.{are_of_bench, asked_by_one, asked_by_two, bench_read, byte_read};
-ghost use Rattle.ra_cli_arguments.specs.Arguments.{run_named, texts_of, AskFor};
+ghost use Rattle.ra_cli_arguments.specs.Arguments.{asked_by, run_named, texts_of, AskFor};
 ghost use Rattle.ra_cli_arguments.specs.declared.arguments.Run.{Run};
 
 use ra_history_lines::kind_line::kind_of_word;
@@ -155,6 +155,20 @@ pub fn run_of_kept(words: &[String]) -> Option<Run>
     }
 }
 
+/// The command-line arguments after the program's name, or why they cannot be read.
+pub type Words = Result<Vec<String>, WordsFault>;
+
+/// Returns the run that the arguments ask for, as `run_of` does, or `None` if they could not be read.
+pub fn run_asked_by(words: &Words) -> Option<Run>
+    // The result is the run that the table of arguments assigns to these arguments, or `None`.
+    ensures { result ≡ asked_by words.now }
+{
+    match words {
+        Ok(words) => run_of_kept(words),
+        Err(_) => None,
+    }
+}
+
 /// Returns the command-line arguments after the program's name.
 ///
 /// # Errors
@@ -164,7 +178,7 @@ pub fn run_of_kept(words: &[String]) -> Option<Run>
 /// # Complexity
 ///
 /// O(total length of the arguments).
-pub fn words_of<R: Env + AllocGlobal>(rt: &R) -> Result<Vec<String>, WordsFault> {
+pub fn words_of<R: Env + AllocGlobal>(rt: &R) -> Words {
     let mut words = env::args(rt)?;
     let _program = words.next();
     Ok(words.collect(rt.alloc())?)

@@ -1,8 +1,10 @@
 //! The end of the program.
 ghost use Rattle.std.specs.Prelude.{codes};
 ghost use Rattle.ra_history_text.specs.Faults.{check_fault_words};
+ghost use Rattle.ra_cli_arguments.specs.Arguments.{stop_words};
 ghost use Rattle.ra_cli_common.specs.Endings.{StopsProgram};
 
+use ra_cli_arguments::{Words, WordsFault};
 use ra_history_text::CheckFault;
 use std::io::Write;
 
@@ -34,5 +36,17 @@ pub fn stop<E: Write>(err: &mut E, fault: CheckFault) -> Ending
     Ending {
         status: 2,
         told: writeln!(err, "{fault}").is_ok(),
+    }
+}
+
+/// Writes the line for arguments that ask for nothing: `usage`, or `no memory` if they could not be read for lack of
+/// memory. Returns the status of an error.
+pub fn stop_unasked<E: Write>(words: &Words, err: &mut E) -> Ending
+    // The status is 2, and `err` received the line for these arguments if the ending says that it was written.
+    ensures { StopsProgram result (E.contents err.old) (E.contents err.new) (stop_words words.now) }
+{
+    match words {
+        Err(WordsFault::NoMemory) => stop(err, CheckFault::NoMemory),
+        Ok(_) | Err(WordsFault::NotText) => usage(err),
     }
 }

@@ -3,6 +3,8 @@ ghost use Rattle.std.specs.Prelude.{◌≡◌, map, string_bytes};
 ghost use Rattle.ra_explain_cli.specs.Asked as asked;
 ghost use Rattle.ra_explain_cli.specs.Asked.{form_named};
 
+use ra_cli_arguments::Words;
+
 /// The form of an explanation.
 #[derive(Clone, Copy, Debug, PartialEq, Eq)]
 pub enum Form {
@@ -28,6 +30,17 @@ pub fn form_of(words: &[String]) -> Option<Form>
         [word] => asked_by_one(word.as_str()),
         [word, option] => asked_by_two(word.as_str(), option.as_str()),
         _ => None,
+    }
+}
+
+/// Returns the form that the arguments ask for, as `form_of` does, or `None` if they could not be read.
+pub fn form_asked_by(words: &Words) -> Option<Form>
+    // The result is the form that the table of arguments assigns to these arguments, or `None`.
+    ensures { result ≡ asked.form_asked_by words.now }
+{
+    match words {
+        Ok(words) => form_of(words),
+        Err(_) => None,
     }
 }
 

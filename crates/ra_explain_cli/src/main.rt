@@ -7,18 +7,9 @@ mod explain;
 mod run;
 
 use crate::run::run;
-use ra_cli_arguments::words_of;
-use std::io;
+use ra_cli_common::run_main;
 use std::process::ExitCode;
 
 fn main(rt: HostRuntime) -> ExitCode {
-    let words = words_of(&rt);
-    let ending = run(
-        rt.alloc(),
-        &words,
-        &mut rt.reader(),
-        &mut io::writer(&rt),
-        &mut rt.stderr(),
-    );
-    ExitCode::from(ending.status)
+    run_main(&rt, |alloc, words, console| run(alloc, words, console))
 }

@@ -7,19 +7,14 @@ mod run;
 
 use crate::run::run;
 use ra_bench::{OpenGate, run_bench};
-use ra_cli_arguments::words_of;
-use std::io;
+use ra_cli_common::run_main;
 use std::process::ExitCode;
 
 fn main(rt: HostRuntime) -> ExitCode {
-    let words = words_of(&rt);
-    let ending = run(
-        rt.alloc(),
-        &words,
-        |kind, replicas, rounds| run_bench(&rt, rt.alloc(), kind, replicas, rounds, &OpenGate),
-        &mut rt.reader(),
-        &mut io::writer(&rt),
-        &mut rt.stderr(),
-    );
-    ExitCode::from(ending.status)
+    run_main(&rt, |alloc, words, console| {
+        let bench = |kind, replicas, rounds| {
+            run_bench(&rt, rt.alloc(), kind, replicas, rounds, &OpenGate)
+        };
+        run(alloc, words, bench, console)
+    })
 }

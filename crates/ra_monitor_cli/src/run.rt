@@ -1,4 +1,4 @@
-//! The program as a function of its arguments, a bench, a reader and two writers.
+//! The program as a function of its arguments, a bench and its streams.
 ghost use Rattle.std.specs.Prelude.{◌≡◌, ◌≢◌, ℕ, Bool, None, Some};
 ghost use Rattle.ra_labels.specs.declared.kind.Kind.{Kind};
 ghost use Rattle.ra_cli_arguments.specs.Arguments.{asked_by, stop_words};
@@ -8,9 +8,8 @@ ghost use Rattle.ra_cli_arguments.specs.declared.arguments.Run.TheVariants.{Chec
 ghost use Rattle.ra_monitor_cli.specs.Program.{RunsBench};
 
 use crate::bench::{BenchAnswer, end_bench};
-use ra_cli_arguments::{Run, WordsFault, run_of_kept};
-use ra_cli_common::{Ending, run_check, stop, usage};
-use ra_history_text::CheckFault;
+use ra_cli_arguments::{Run, Words, run_asked_by};
+use ra_cli_common::{Console, Ending, run_check, stop_unasked};
 use ra_labels::Kind;
 use std::alloc::Global;
 use std::io::{Read, Write};
@@ -27,46 +26,42 @@ use std::io::{Read, Write};
 /// That of `ra_history_text::check` or of the closure.
 pub fn run<R: Read, W: Write, E: Write, B: FnOnce(Kind, u8, u32) -> BenchAnswer>(
     alloc: Global,
-    words: &Result<Vec<String>, WordsFault>,
+    words: &Words,
     bench: B,
-    reader: &mut R,
-    out: &mut W,
-    err: &mut E,
+    console: &mut Console<R, W, E>,
 ) -> Ending
     // The closure can be called with any arguments.
     requires { B.IsAlwaysCallable bench }
     // For arguments that ask for nothing, nothing is read.
-    ensures unread { asked_by words.now ≡ None → reader.new ≡ reader.old }
+    ensures unread { asked_by words.now ≡ None → console.new.reader ≡ console.old.reader }
     // For arguments that ask for nothing, nothing is written on `out`.
-    ensures unwritten { asked_by words.now ≡ None → out.new ≡ out.old }
+    ensures unwritten { asked_by words.now ≡ None → console.new.out ≡ console.old.out }
     // For arguments that ask for nothing, the status is 2, and `err` received the line `usage`, or `no memory`, if the
     // ending says that it was written.
     ensures usage { asked_by words.now ≡ None →
-        StopsProgram result (E.contents err.old) (E.contents err.new) (stop_words words.now) }
+        StopsProgram result (E.contents console.old.err) (E.contents console.new.err) (stop_words words.now) }
     // For the arguments of a check, the contract of `run_check` holds: the output and the status are those of the check
     // of the text.
     ensures checked { (report : Bool) → asked_by words.now ≡ Some (Check report) →
-        ChecksText report result (R.remaining reader.old) (R.remaining reader.new)
-        (W.contents out.old) (W.contents out.new) (E.contents err.old) (E.contents err.new) }
+        ChecksText report result (R.remaining console.old.reader) (R.remaining console.new.reader)
+        (W.contents console.old.out) (W.contents console.new.out)
+        (E.contents console.old.err) (E.contents console.new.err) }
     // For the arguments of a check, nothing is written on `err` unless the status is 2.
     ensures silent { (report : Bool) → asked_by words.now ≡ Some (Check report) → result.status ≢ 2 →
-        err.new ≡ err.old }
+        console.new.err ≡ console.old.err }
     // For the arguments of a bench, nothing is read.
     ensures unasked { (kind : Kind) (replicas rounds : ℕ) → asked_by words.now ≡ Some (Bench kind replicas rounds) →
-        reader.new ≡ reader.old }
+        console.new.reader ≡ console.old.reader }
     // For the arguments of a bench, the closure answered for just this kind and these numbers. Its report is written as
     // the bench's line, or its error is reported as `bench fault`.
     ensures benched { (kind : Kind) (replicas rounds : ℕ) → asked_by words.now ≡ Some (Bench kind replicas rounds) →
         RunsBench (B.post bench kind replicas rounds) kind replicas rounds result
-        (W.contents out.old) (W.contents out.new) (E.contents err.old) (E.contents err.new) }
+        (W.contents console.old.out) (W.contents console.new.out)
+        (E.contents console.old.err) (E.contents console.new.err) }
 {
-    match words {
-        Ok(words) => match run_of_kept(words) {
-            Some(asked) => run_asked(alloc, asked, bench, reader, out, err),
-            None => usage(err),
-        },
-        Err(WordsFault::NotText) => usage(err),
-        Err(WordsFault::NoMemory) => stop(err, CheckFault::NoMemory),
+    match run_asked_by(words) {
+        Some(asked) => run_asked(alloc, asked, bench, console),
+        None => stop_unasked(words, &mut console.err),
     }
 }
 
@@ -75,21 +70,22 @@ fn run_asked<R: Read, W: Write, E: Write, B: FnOnce(Kind, u8, u32) -> BenchAnswe
     alloc: Global,
     asked: Run,
     bench: B,
-    reader: &mut R,
-    out: &mut W,
-    err: &mut E,
+    console: &mut Console<R, W, E>,
 ) -> Ending
     requires { B.IsAlwaysCallable bench }
     ensures checked { (report : Bool) → asked ≡ Check report →
-        ChecksText report result (R.remaining reader.old) (R.remaining reader.new)
-        (W.contents out.old) (W.contents out.new) (E.contents err.old) (E.contents err.new) }
-    ensures silent { (report : Bool) → asked ≡ Check report → result.status ≢ 2 → err.new ≡ err.old }
+        ChecksText report result (R.remaining console.old.reader) (R.remaining console.new.reader)
+        (W.contents console.old.out) (W.contents console.new.out)
+        (E.contents console.old.err) (E.contents console.new.err) }
+    ensures silent { (report : Bool) → asked ≡ Check report → result.status ≢ 2 → console.new.err ≡ console.old.err }
     ensures unasked { (kind : Kind) (replicas rounds : ℕ) → asked ≡ Bench kind replicas rounds →
-        reader.new ≡ reader.old }
+        console.new.reader ≡ console.old.reader }
     ensures benched { (kind : Kind) (replicas rounds : ℕ) → asked ≡ Bench kind replicas rounds →
         RunsBench (B.post bench kind replicas rounds) kind replicas rounds result
-        (W.contents out.old) (W.contents out.new) (E.contents err.old) (E.contents err.new) }
+        (W.contents console.old.out) (W.contents console.new.out)
+        (E.contents console.old.err) (E.contents console.new.err) }
 {
+    let Console { reader, out, err } = console;
     match asked {
         Run::Check { report } => run_check(alloc, report, reader, out, err),
         Run::Bench {
