@@ -36,8 +36,8 @@ class Plan:
         # What cannot wait for half of its time wants processors too.
         without = self.needs(name, now) - self.scale() * self.seconds[name] / 2
         rivals = [it for it in [*ready, *self.running] if it != name and self.needs(it, now) > without]
-        # Where all that is left waits for it alone, what still runs will soon leave its processors to it.
-        alone = not rivals and all(name in self.crates.up_to(it) for it in self.left if it not in ready)
+        # Where all that is left waits for it or can wait, what still runs will soon leave its processors to it.
+        alone = not rivals and all(name in self.crates.up_to(it) or self.needs(it, now) <= without for it in self.left)
         if idle <= 0 and not alone:
             return None
         urgent = alone or self.needs(name, now) >= URGENT * self.longest(now)
