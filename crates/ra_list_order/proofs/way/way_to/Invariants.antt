@@ -1,0 +1,16 @@
+use Rattle.std.proofs.Common.{◌≡◌, true, ◌≤◌, length, take}
+use Rattle.std.specs.Prelude.{All, Contains}
+use Rattle.ra_list_order.specs.Edges.{IsChain}
+use Rattle.ra_list_order.specs.Marks.{is_marked}
+use Rattle.ra_list_order.proofs.way.way_to.Given as goal
+
+abbrev pub invariant-loop-left : goal.invariant-loop-left
+invariant-loop-left l = record {
+  within : l.left ≤ length l.walked;
+  marked : is_marked l.start (take l.left l.walked) l.at ≡ true;
+  chain : IsChain l.at l.way.items l.goal;
+  among : All (Contains l.walked) l.way.items;
+}
+
+abbrev pub decreases-loop-left : goal.decreases-loop-left
+decreases-loop-left l = l.left

@@ -1,0 +1,5 @@
+pub mod Edges
+pub mod ListOrder
+pub mod Listing
+pub mod Marks
+pub mod Sweep

@@ -1,0 +1,16 @@
+//! A total order of elements that extends a growing list of edges.
+//!
+//! Contract for the crates above: contracts see a `ListOrder` as its elements in order, each once, and its edges, each
+//! from an element to a later one. `put` inserts an element next to a neighbour. `add` either adds an edge, and moves
+//! elements so that the order extends it, or returns a cycle of edges; by the theorem `no_order_extends_cycle` no order
+//! extends those edges.
+#![tactic(auto)]
+
+mod edge;
+mod list_order;
+mod sweep;
+pub mod theorems;
+mod way;
+
+pub use edge::Edge;
+pub use list_order::ListOrder;

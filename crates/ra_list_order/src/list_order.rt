@@ -1,0 +1,203 @@
+//! The kept order and its edges.
+ghost use Rattle.std.specs.Prelude.{◌≡◌, ◌+◌, ◌<◌, ◌≤◌, ◌++◌, ◌∷◌, [], length, take, drop, vec_len, Contains, IfOk, OnOk, OnErr, IfSome, MatchOption, slice_index};
+ghost use Rattle.std.specs.List.Sorted.{IsPermutation};
+ghost use Rattle.ra_list_order.specs.declared.edge.Edge.{Edge};
+ghost use Rattle.ra_list_order.specs.Edges.{EachOnce, Extends, IsCycle};
+ghost use Rattle.ra_list_order.specs.ListOrder.{IsPut};
+
+use crate::edge::Edge;
+use crate::sweep::sweep;
+use crate::way::{is_marked, way_to};
+use ra_labels::NoMemory;
+use std::alloc::Global;
+use std::marker::Model;
+
+/// The kept order: elements in an order that extends the edges. Any `u32` can be an element.
+#[derive(Drop)]
+pub struct ListOrder {
+    /// The elements in order.
+    order: Vec<u32>,
+    /// The edges in the order in which they were added.
+    edges: Vec<Edge>,
+}
+
+impl Model for ListOrder {
+    ghost use Rattle.ra_list_order.specs.ListOrder.{ListOrder, ListOrderKept};
+
+    ghost Value = { ListOrder };
+
+    ghost view = { λ a. record { order = a.order.items; edges = a.edges.items } };
+
+    ghost invariant = { λ a. ListOrderKept a.order.items a.edges.items };
+}
+
+impl ListOrder {
+    /// Creates an order without elements and edges. Does not allocate.
+    pub fn new(alloc: Global) -> ListOrder
+        // There are no elements.
+        ensures order { result.order ≡ [] }
+        // There are no edges.
+        ensures edges { result.edges ≡ [] }
+    {
+        ListOrder {
+            order: Vec::new(alloc),
+            edges: Vec::new(alloc),
+        }
+    }
+
+    /// Does nothing. Its clauses state for the proofs of callers what holds of every `ListOrder`.
+    pub fn invariant(&self)
+        // Each element is in the order once.
+        ensures once { EachOnce self.now.order }
+        // Each edge is from an element to a later one.
+        ensures extends { Extends self.now.order self.now.edges }
+    {
+        let _edges = self.edges.len();
+    }
+
+    /// Inserts an element directly behind its left neighbour. Without a left neighbour the element is inserted directly
+    /// before its right neighbour, and without both at the front.
+    ///
+    /// # Errors
+    ///
+    /// `NoMemory` if allocation fails; nothing is changed.
+    ///
+    /// # Complexity
+    ///
+    /// O(n) with `n` elements.
+    pub fn put(
+        &mut self,
+        element: u32,
+        left: Option<u32>,
+        right: Option<u32>,
+    ) -> Result<(), NoMemory>
+        // The element is not in the order.
+        requires new { ¬ Contains self.old.order element }
+        // The left neighbour, if there is one, is in the order.
+        requires left { IfSome left (λ l. Contains self.old.order l) }
+        // The right neighbour, if there is one, is in the order.
+        requires right { IfSome right (λ r. Contains self.old.order r) }
+        // The edges are unchanged, even after a failure.
+        ensures edges { self.new.edges ≡ self.old.edges }
+        // The element is inserted next to the neighbour that decides; the others keep their order.
+        ensures put { OnOk result (IsPut self.old.order left right element self.new.order) }
+        // After a failure nothing is changed.
+        ensures failed { OnErr result (self.new ≡ self.old) }
+    {
+        let at = match left {
+            Some(left) => place_of(&self.order, left) + 1,
+            None => place_before(&self.order, right),
+        };
+        self.order.insert(at, element)?;
+        Ok(())
+    }
+
+    /// Adds an edge, and moves elements so that the order extends it; or returns a cycle of edges, this one among them.
+    ///
+    /// # Errors
+    ///
+    /// `NoMemory` if allocation fails; nothing is changed.
+    ///
+    /// # Complexity
+    ///
+    /// Two walks along the order. If `before` is not yet before `after`, then also one walk along the elements between
+    /// them, and for each element that moves a walk along all edges.
+    pub fn add(
+        &mut self,
+        alloc: Global,
+        before: u32,
+        after: u32,
+        label: u32,
+    ) -> Result<Option<Vec<Edge>>, NoMemory>
+        // The earlier element is in the order.
+        requires before { Contains self.old.order before }
+        // The later element is in the order.
+        requires after { Contains self.old.order after }
+        // The elements are the same; only their order may change.
+        ensures elements { IsPermutation self.old.order self.new.order }
+        // The order extends the edges.
+        ensures extends { Extends self.new.order self.new.edges }
+        // The result is `None` and the edge is added behind the others, or the result is a cycle of the edges and this
+        // one, and nothing is changed.
+        ensures answer { let edge : Edge = record { before = before; after = after; label = label } in
+            let edges = self.old.edges ++ edge ∷ [] in
+            IfOk result (λ found. MatchOption found (self.new.edges ≡ edges)
+            (λ cycle. (self.new ≡ self.old) × IsCycle edges cycle.items)) }
+        // After a failure nothing is changed.
+        ensures failed { OnErr result (self.new ≡ self.old) }
+    {
+        let edge = Edge {
+            before,
+            after,
+            label,
+        };
+        let first = place_of(&self.order, after);
+        let last = place_of(&self.order, before);
+        if last < first {
+            self.edges.push(edge)?;
+            return Ok(None);
+        }
+        let end = last + 1;
+        let swept = sweep(alloc, &self.order[first..end], &self.edges, after)?;
+        if is_marked(after, &swept.walked, before) {
+            let mut cycle = way_to(alloc, after, &swept.walked, before)?;
+            cycle.insert(0, edge)?;
+            return Ok(Some(cycle));
+        }
+        let mut parts = swept.stays;
+        parts.extend_from_slice(&swept.moves)?;
+        self.edges.push(edge)?;
+        overwrite(&mut self.order, first, &parts);
+        Ok(None)
+    }
+
+    /// Removes all edges except the given number of earliest ones. The order is unchanged: it extends them too.
+    ///
+    /// # Complexity
+    ///
+    /// O(1) for each edge that is removed.
+    pub fn keep_edges(&mut self, count: usize)
+        // The order is unchanged.
+        ensures order { self.new.order ≡ self.old.order }
+        // The given number of earliest edges remain.
+        ensures edges { self.new.edges ≡ take count self.old.edges }
+    {
+        self.edges.truncate(count);
+    }
+}
+
+// Returns the index of the element.
+fn place_of(order: &[u32], element: u32) -> usize
+    requires { Contains order.now element }
+    ensures within { result < length order.now }
+    ensures there { slice_index order.now result ≡ element }
+{
+    for (i, x) in order.iter().enumerate() {
+        if *x == element {
+            return i;
+        }
+    }
+    unreachable!()
+}
+
+// Returns the index of the right neighbour; without one, that of the front.
+fn place_before(order: &[u32], right: Option<u32>) -> usize
+    requires { IfSome right (λ r. Contains order.now r) }
+    ensures { MatchOption right (result ≡ 0)
+        (λ r. (result < length order.now) × (slice_index order.now result ≡ r)) }
+{
+    match right {
+        Some(right) => place_of(order, right),
+        None => 0,
+    }
+}
+
+// Overwrites the elements from this index on with the parts.
+fn overwrite(order: &mut Vec<u32>, first: usize, parts: &[u32])
+    requires { first + length parts.now ≤ vec_len order.old }
+    ensures { order.new.items
+        ≡ take first order.old.items ++ (parts.now ++ drop (length parts.now) (drop first order.old.items)) }
+{
+    let end = first + parts.len();
+    order[first..end].copy_from_slice(parts);
+}
