@@ -1,6 +1,8 @@
 pub mod Adds
 pub mod Befores
 pub mod Cycles
+pub mod EdgePools
+pub mod Ends
 pub mod Listings
 pub mod Members
 pub mod Puts

@@ -1,7 +1,8 @@
 -- Where an element stands in a list.
-use Rattle.std.proofs.Common.{◌≡◌, zero, suc, Bool, true, List, [], ◌∷◌, filter, sym, ap, ◌∙◌, subst, inl, inr, arith}
+use Rattle.std.proofs.Common.{◌≡◌, ℕ, zero, suc, ◌<◌, length, get_or, Bool, true, List, [], ◌∷◌, filter, sym, ap, ◌∙◌, subst, inl, inr, arith}
 use Rattle.std.specs.Prelude.{◌⊎◌, Contains}
 use Rattle.std.specs.List.{list_any}
+use Rattle.std.proofs.lemmas.Option.{slice_get-get_or}
 use Rattle.std.proofs.lemmas.Bool.{false≢true, cases_Bool, cond-true, cond-false, or_left, or_right}
 
 pub head_or_behind : {A : Type 0} (x : A) (xs : List A) (y : A) → Contains (x ∷ xs) y → (x ≡ y) ⊎ Contains xs y
@@ -49,3 +50,13 @@ any_there p (x ∷ xs) y there passes = elim (head_or_behind x xs y there) [
   | inl here ↦ or_left (p x) (list_any p xs) (ap p here ∙ passes)
   | inr further ↦ or_right (p x) (list_any p xs) (any_there p xs y further passes)
 ]
+
+-- within the list, the default does not matter
+pub same_read : {A : Type 0} (xs : List A) (k : ℕ) (d e : A) → k < length xs → get_or xs k d ≡ get_or xs k e
+same_read xs k d e within =
+    let first = slice_get-get_or xs k d within in
+    let second = slice_get-get_or xs k e within in
+    cc
+
+pub read_at : {A : Type 0} (xs : List A) (k : ℕ) (d x : A) → k < length xs → x ≡ get_or xs k x → x ≡ get_or xs k d
+read_at xs k d x within is = is ∙ same_read xs k x d within

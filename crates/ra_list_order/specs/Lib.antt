@@ -1,3 +1,4 @@
+pub mod EdgePool
 pub mod Edges
 pub mod ListOrder
 pub mod Listing

@@ -10,6 +10,10 @@ pub record AreEdgesFrom (x : ℕ) (edges begun : List Edge) : Type 0 where
   pub only : (edge : Edge) → Contains begun edge → Contains edges edge × (edge.before ≡ x)
   pub each : (edge : Edge) → Contains edges edge → edge.before ≡ x → Contains begun edge
 
+-- holds if the edges from x were appended, in any order
+abbrev pub PushesEdgesFrom : ℕ → List Edge → List Edge → List Edge → Type 0
+PushesEdgesFrom x edges old new = (begun : List Edge) × (new ≡ old ++ begun) × AreEdgesFrom x edges begun
+
 pub record IsSwept (stretch : List ℕ) (edges : List Edge) (start : ℕ) (stays moves : List ℕ)
     (walked : List Edge) : Type 0 where
   -- the two lists have the elements of the stretch

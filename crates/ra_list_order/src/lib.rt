@@ -7,6 +7,7 @@
 #![tactic(auto)]
 
 mod edge;
+mod edge_pool;
 mod list_order;
 mod sweep;
 pub mod theorems;

@@ -6,6 +6,7 @@ ghost use Rattle.ra_list_order.specs.Edges.{EachOnce, Extends, IsCycle};
 ghost use Rattle.ra_list_order.specs.ListOrder.{IsPut};
 
 use crate::edge::Edge;
+use crate::edge_pool::EdgePool;
 use crate::sweep::sweep;
 use crate::way::{is_marked, way_to};
 use ra_labels::NoMemory;
@@ -18,7 +19,7 @@ pub struct ListOrder {
     /// The elements in order.
     order: Vec<u32>,
     /// The edges in the order in which they were added.
-    edges: Vec<Edge>,
+    edges: EdgePool,
 }
 
 impl Model for ListOrder {
@@ -26,9 +27,9 @@ impl Model for ListOrder {
 
     ghost Value = { ListOrder };
 
-    ghost view = { λ a. record { order = a.order.items; edges = a.edges.items } };
+    ghost view = { λ a. record { order = a.order.items; edges = a.edges } };
 
-    ghost invariant = { λ a. ListOrderKept a.order.items a.edges.items };
+    ghost invariant = { λ a. ListOrderKept a.order.items a.edges };
 }
 
 impl ListOrder {
@@ -41,7 +42,7 @@ impl ListOrder {
     {
         ListOrder {
             order: Vec::new(alloc),
-            edges: Vec::new(alloc),
+            edges: EdgePool::new(alloc),
         }
     }
 
@@ -52,7 +53,7 @@ impl ListOrder {
         // Each edge is from an element to a later one.
         ensures extends { Extends self.now.order self.now.edges }
     {
-        let _edges = self.edges.len();
+        let _elements = self.order.len();
     }
 
     /// Inserts an element directly behind its left neighbour. Without a left neighbour the element is inserted directly

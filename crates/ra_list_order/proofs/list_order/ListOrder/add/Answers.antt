@@ -11,7 +11,7 @@ invariant_of-self-then-last-first c =
     add_stands _ _ _ c.place_of-first.result c.place_of-last.result _ _ edge c.self.invariant
     c.deref.ensures.value c.place_of-first.ensures.within c.place_of-first.ensures.there
     c.deref-2.ensures.value c.place_of-last.ensures.within c.place_of-last.ensures.there
-    c.if-last-first.true c.in_ok-push.ensures.items
+    c.if-last-first.true c.in_ok-push.ensures.pushed
 
 pub returns-then-last-first-clause-extends : goal.returns-then-last-first-clause-extends
 returns-then-last-first-clause-extends c =
@@ -19,13 +19,13 @@ returns-then-last-first-clause-extends c =
     (add_stands _ _ _ c.place_of-first.result c.place_of-last.result _ _ edge c.self.invariant
     c.deref.ensures.value c.place_of-first.ensures.within c.place_of-first.ensures.there
     c.deref-2.ensures.value c.place_of-last.ensures.within c.place_of-last.ensures.there
-    c.if-last-first.true c.in_ok-push.ensures.items).extends
+    c.if-last-first.true c.in_ok-push.ensures.pushed).extends
 
 pub returns-then-is_marked-clause-answer : goal.returns-then-is_marked-clause-answer
 returns-then-is_marked-clause-answer c =
     let edge : Edge = record { before = c.args.before; after = c.args.after; label = c.args.label } in (
       refl,
-      add_cycles _ _ _ _ edge _ _ _ _ _ _ (ap (λ (l : ListOrder). l.edges) c.self.view_is) c.deref-4.ensures.value
+      add_cycles _ _ _ _ edge _ _ _ _ _ _ (ap (λ (l : ListOrder). l.edges) c.self.view_is) refl
           c.in_ok-swept.ensures c.deref-then-is_marked.ensures.value c.in_ok-cycle.ensures.chain
           c.in_ok-cycle.ensures.walked c.in_ok-insert.ensures.items,
     )
@@ -34,10 +34,10 @@ pub overwrite-requires : goal.overwrite-requires
 overwrite-requires c =
     parts_fit _ _ _ _ c.place_of-first.result c.place_of-last.result (c.place_of-last.result + 1) _ _ _ _ _ _ _ _ _
     c.deref-2.ensures.value c.place_of-last.ensures.within c.if-last-first.false refl
-    c.deref-3.ensures.value refl c.in_ok-swept.ensures c.deref-6.ensures.value c.in_ok-extend_from_slice.ensures.items
-    c.deref-7.ensures.value (sym c.self.inside.order.ok.0)
+    c.deref-3.ensures.value refl c.in_ok-swept.ensures c.deref-5.ensures.value c.in_ok-extend_from_slice.ensures.items
+    c.deref-6.ensures.value (sym c.self.inside.order.ok.0)
 
-moved : (c : goal.After-drop-swept-3) → ListOrderKept c.overwrite.new.order.items c.push-2.new.self.items
+moved : (c : goal.After-drop-swept-3) → ListOrderKept c.overwrite.new.order.items c.push-2.new.self
     × IsPermutation c.self.inside.order.items c.overwrite.new.order.items
 moved c =
     let edge : Edge = record { before = c.args.before; after = c.args.after; label = c.args.label } in
@@ -46,9 +46,9 @@ moved c =
     c.deref.ensures.value c.place_of-first.ensures.within c.place_of-first.ensures.there
     c.deref-2.ensures.value c.place_of-last.ensures.within c.place_of-last.ensures.there
     c.if-last-first.false refl c.deref-3.ensures.value refl
-    c.deref-4.ensures.value c.in_ok-swept.ensures c.deref-5.ensures.value c.is_marked.ensures c.if-is_marked.false
-    c.deref-6.ensures.value c.in_ok-extend_from_slice.ensures.items c.deref-7.ensures.value c.overwrite.ensures
-    c.in_ok-push-2.ensures.items
+    refl c.in_ok-swept.ensures c.deref-4.ensures.value c.is_marked.ensures c.if-is_marked.false
+    c.deref-5.ensures.value c.in_ok-extend_from_slice.ensures.items c.deref-6.ensures.value c.overwrite.ensures
+    c.in_ok-push-2.ensures.pushed
 
 pub invariant_of-self-2 : goal.invariant_of-self-2
 invariant_of-self-2 c = (moved c).0

@@ -1,0 +1,24 @@
+use Rattle.std.proofs.Common.{◌≡◌, ◌-◌, ◌<◌, Some, length, get_or, take, sym, ap, ◌∙◌, arith}
+use Rattle.ra_list_order.specs.EdgePool.{no_edge, edge_at}
+use Rattle.ra_list_order.proofs.EdgePools.{pool_popped, same_some}
+use Rattle.ra_list_order.proofs.edge_pool.EdgePool.pop.Goals as goal
+
+pub invariant_of-self-2 : goal.invariant_of-self-2
+invariant_of-self-2 c =
+    let edges = c.self.inside.edges.items in
+    let links = c.self.inside.links.items in
+    let long = c.self.inside.edges.ok.0 in
+    let long_links = c.self.inside.links.ok.0 in
+    let many = c.self.invariant.as_many in
+    let fewer = c.in-Some.ensures.cases in
+    let some : 0 < length edges = omega (arith, long, fewer) in
+    let last : c.in-Some.edge ≡ edge_at edges (length edges - 1) =
+    same_some _ _ (sym c.in-Some.is ∙ c.pop.ensures.value no_edge (omega (arith, long, some))
+    ∙ ap (λ n. Some (edge_at edges (n - 1))) long) in
+    pool_popped c.self.inside.lasts c.insert.new.self c.insert.result edges c.pop.new.self.items
+    c.in-Some.edge links c.pop-2.new.self.items _ _ c.self.invariant some last
+    (c.pop-2.ensures.value 0 (omega (arith, long_links, many, some))
+    ∙ ap (λ n. Some (get_or links (n - 1) 0)) long_links)
+    c.unwrap_or-link.ensures c.insert.ensures.updates c.insert.ensures.absent
+    (c.pop.ensures.rest ∙ ap (λ n. take (n - 1) edges) long)
+    (c.pop-2.ensures.rest ∙ ap (λ n. take (n - 1) links) long_links)

@@ -1,0 +1,120 @@
+//! The edges in the order in which they were added, linked by the element where they begin.
+ghost use Rattle.std.specs.Prelude.{◌≡◌, ◌-◌, ◌++◌, ◌∷◌, [], length, take, OnOk, OnErr};
+ghost use Rattle.ra_list_order.specs.declared.edge.Edge.{Edge};
+ghost use Rattle.ra_list_order.specs.Sweep.{PushesEdgesFrom};
+
+use crate::edge::Edge;
+use ra_labels::NoMemory;
+use std::alloc::Global;
+use std::collections::BTreeMap;
+use std::marker::Model;
+
+/// Edges in the order in which they were added. The edges from one element are found without a walk along the others.
+#[derive(Drop)]
+pub struct EdgePool {
+    /// For each element where an edge begins, the number of the last one: its index plus one.
+    lasts: BTreeMap<u32, usize>,
+    /// The edges.
+    edges: Vec<Edge>,
+    /// For each edge, the number of the previous one from the same element, or 0.
+    links: Vec<usize>,
+}
+
+impl Model for EdgePool {
+    ghost use Rattle.std.specs.Prelude.{List};
+    ghost use Rattle.ra_list_order.specs.declared.edge.Edge.{Edge};
+    ghost use Rattle.std.specs.Ordering.{nat_cmp};
+    ghost use Rattle.std.specs.BTreeMap.{get};
+    ghost use Rattle.ra_list_order.specs.EdgePool.{EdgesLinked};
+
+    ghost Value = { List Edge };
+
+    ghost view = { λ a. a.edges.items };
+
+    ghost invariant = { λ a. EdgesLinked (get nat_cmp a.lasts) a.edges.items a.links.items };
+}
+
+impl EdgePool {
+    /// Creates an empty pool. Does not allocate.
+    pub fn new(alloc: Global) -> EdgePool
+        ensures { result ≡ [] }
+    {
+        EdgePool {
+            lasts: BTreeMap::new(alloc),
+            edges: Vec::new(alloc),
+            links: Vec::new(alloc),
+        }
+    }
+
+    /// Appends an edge.
+    ///
+    /// # Errors
+    ///
+    /// `NoMemory` if allocation fails; nothing is changed.
+    ///
+    /// # Complexity
+    ///
+    /// O(log n) with `n` edges, amortized.
+    pub fn push(&mut self, edge: Edge) -> Result<(), NoMemory>
+        ensures pushed { OnOk result (self.new ≡ self.old ++ edge ∷ []) }
+        ensures failed { OnErr result (self.new ≡ self.old) }
+    {
+        self.edges.reserve(1)?;
+        self.links.reserve(1)?;
+        let number = self.edges.len() + 1;
+        let link = self.lasts.insert(edge.before, number)?;
+        self.links.push_reserved(link.unwrap_or(0));
+        self.edges.push_reserved(edge);
+        Ok(())
+    }
+
+    // Removes the last edge, if there is one.
+    fn pop(&mut self)
+        ensures { self.new ≡ take (length self.old - 1) self.old }
+    {
+        let Some(edge) = self.edges.pop() else {
+            return;
+        };
+        let link = self.links.pop().unwrap_or(0);
+        let _ = self.lasts.insert(edge.before, link);
+    }
+
+    /// Removes all edges except the given number of earliest ones.
+    ///
+    /// # Complexity
+    ///
+    /// O(log n) with `n` edges for each edge that is removed.
+    pub fn truncate(&mut self, count: usize)
+        ensures { self.new ≡ take count self.old }
+    {
+        while self.len() > count {
+            self.pop();
+        }
+    }
+
+    fn len(&self) -> usize
+        ensures { result ≡ length self.now }
+    {
+        self.edges.len()
+    }
+
+    /// Appends the edges from the element to the list.
+    ///
+    /// # Errors
+    ///
+    /// `NoMemory` if allocation fails.
+    ///
+    /// # Complexity
+    ///
+    /// O(length of the result), and O(log n) with `n` edges to find the last one.
+    pub fn push_from(&self, walked: &mut Vec<Edge>, element: u32) -> Result<(), NoMemory>
+        ensures { OnOk result (PushesEdgesFrom element self.now walked.old.items walked.new.items) }
+    {
+        let mut at = self.lasts.get(&element).copied().unwrap_or(0);
+        while at > 0 {
+            walked.push(self.edges[at - 1])?;
+            at = self.links[at - 1];
+        }
+        Ok(())
+    }
+}
