@@ -1,12 +1,11 @@
 -- Marks, and the way back along edges that were walked.
-use Rattle.std.proofs.Common.{◌≡◌, ℕ, ◌+◌, ◌<◌, Bool, true, false, List, [], ◌∷◌, ◌++◌, length, get_or, take, refl, sym, ap, ◌∙◌, subst, inl, inr, arith, append_assoc}
+use Rattle.std.proofs.Common.{◌≡◌, ℕ, ◌+◌, ◌<◌, Bool, true, false, List, [], ◌∷◌, ◌++◌, length, get_or, take, reverse, refl, sym, ap, ◌∙◌, subst, inl, inr, arith, append_assoc}
 use Rattle.std.specs.Prelude.{◌==◌, Contains}
 use Rattle.std.specs.List.{list_any}
 use Rattle.std.specs.Prelude.{All}
-use Rattle.std.specs.List.{insert}
 use Rattle.std.proofs.Math.ListN.{get_or-append}
 use Rattle.std.proofs.Math.Seq.{get_or-append_seam, take-append_seam}
-use Rattle.std.proofs.lemmas.List.{take-append-le, append-nil, length_push}
+use Rattle.std.proofs.lemmas.List.{take-append-le, append-nil, length_push, reverse-append}
 use Rattle.std.proofs.lemmas.List.Elements.{All-same, All-cons}
 use Rattle.std.proofs.lemmas.Bool.{false≢true, or_cases, or_left, or_right, eq-eqb, eqb-true, cases_lt}
 use Rattle.std.proofs.lemmas.List.Folds.{list_any-append, list_any_more}
@@ -87,16 +86,21 @@ walked_more start walked (edge ∷ more) x are marked begin =
     (walked_more start (walked ++ edge ∷ []) more x one (still_marked start walked (edge ∷ []) x marked)
     (λ e there. begin e (behind_head edge more e there)))
 
--- one more edge of the way
-pub chain_grows : (way new : List Edge) (edge : Edge) (at goal : ℕ) → new ≡ insert way 0 edge → edge.after ≡ at
-    → IsChain at way goal → IsChain edge.before new goal
-chain_grows way new edge at goal made is chain =
-    subst (λ es. IsChain edge.before es goal) (sym made) (refl, subst (λ a. IsChain a way goal) (sym is) chain)
+-- one more edge of the way, which is kept backwards
+reversed_push : (way new : List Edge) (edge : Edge) → new ≡ way ++ edge ∷ [] → reverse new ≡ edge ∷ reverse way
+reversed_push way new edge made = ap reverse made ∙ reverse-append way (edge ∷ [])
 
-pub among_grows : (walked way new : List Edge) (edge : Edge) → new ≡ insert way 0 edge → Contains walked edge
-    → All (Contains walked) way → All (Contains walked) new
+pub chain_grows : (way new : List Edge) (edge : Edge) (at goal : ℕ) → new ≡ way ++ edge ∷ [] → edge.after ≡ at
+    → IsChain at (reverse way) goal → IsChain edge.before (reverse new) goal
+chain_grows way new edge at goal made is chain =
+    subst (λ es. IsChain edge.before es goal) (sym (reversed_push way new edge made))
+    (refl, subst (λ a. IsChain a (reverse way) goal) (sym is) chain)
+
+pub among_grows : (walked way new : List Edge) (edge : Edge) → new ≡ way ++ edge ∷ [] → Contains walked edge
+    → All (Contains walked) (reverse way) → All (Contains walked) (reverse new)
 among_grows walked way new edge made there all =
-    All-same (Contains walked) new (edge ∷ way) made (All-cons (Contains walked) edge way there all)
+    All-same (Contains walked) (reverse new) (edge ∷ reverse way) (reversed_push way new edge made)
+    (All-cons (Contains walked) edge (reverse way) there all)
 
 -- a mark as the code reads it
 pub mark_read : (start : ℕ) (walked read : List Edge) (x : ℕ) (answer b : Bool) → read ≡ walked

@@ -11,6 +11,10 @@ abbrev pub IsBefore : List ℕ → ℕ → ℕ → Type 0
 IsBefore [] a b = ⊥
 IsBefore (x ∷ xs) a b = ((x ≡ a) × Contains xs b) ⊎ IsBefore xs a b
 
+-- holds if one of the edges is from a to b
+abbrev pub HasEdge : List Edge → ℕ → ℕ → Type 0
+HasEdge edges a b = (edge : Edge) × Contains edges edge × (edge.before ≡ a) × (edge.after ≡ b)
+
 -- holds if each edge is from an element to a later one
 abbrev pub Extends : List ℕ → List Edge → Type 0
 Extends order edges = (edge : Edge) → Contains edges edge → IsBefore order edge.before edge.after

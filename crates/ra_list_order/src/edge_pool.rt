@@ -1,6 +1,7 @@
 //! The edges in the order in which they were added, linked by the element where they begin.
-ghost use Rattle.std.specs.Prelude.{◌≡◌, ◌-◌, ◌++◌, ◌∷◌, [], length, take, OnOk, OnErr};
+ghost use Rattle.std.specs.Prelude.{◌≡◌, ◌-◌, ◌++◌, ◌∷◌, [], length, take, IsTrue, ◌↔◌, OnOk, OnErr};
 ghost use Rattle.ra_list_order.specs.declared.edge.Edge.{Edge};
+ghost use Rattle.ra_list_order.specs.Edges.{HasEdge};
 ghost use Rattle.ra_list_order.specs.Sweep.{PushesEdgesFrom};
 
 use crate::edge::Edge;
@@ -116,5 +117,22 @@ impl EdgePool {
             at = self.links[at - 1];
         }
         Ok(())
+    }
+    /// Returns `true` if the pool has an edge from one element to another.
+    ///
+    /// # Complexity
+    ///
+    /// O(number of edges from `before`), and O(log n) with `n` edges to find the last one.
+    pub fn contains(&self, before: u32, after: u32) -> bool
+        ensures { IsTrue result ↔ HasEdge self.now before after }
+    {
+        let mut at = self.lasts.get(&before).copied().unwrap_or(0);
+        while at > 0 {
+            if self.edges[at - 1].after == after {
+                return true;
+            }
+            at = self.links[at - 1];
+        }
+        false
     }
 }

@@ -10,6 +10,8 @@ mod edge;
 mod edge_pool;
 mod list_order;
 mod sweep;
+#[cfg(test)]
+mod tests;
 pub mod theorems;
 mod way;
 

@@ -1,8 +1,8 @@
 //! The kept order and its edges.
-ghost use Rattle.std.specs.Prelude.{◌≡◌, ◌+◌, ◌<◌, ◌≤◌, ◌++◌, ◌∷◌, [], length, take, drop, vec_len, Contains, IfOk, OnOk, OnErr, IfSome, MatchOption, slice_index};
+ghost use Rattle.std.specs.Prelude.{◌≡◌, ◌+◌, ◌<◌, ◌≤◌, ◌++◌, ◌∷◌, [], length, take, drop, vec_len, Contains, IfOk, OnOk, OnErr, IfSome, MatchOption, IsTrue, ◌↔◌, slice_index};
 ghost use Rattle.std.specs.List.Sorted.{IsPermutation};
 ghost use Rattle.ra_list_order.specs.declared.edge.Edge.{Edge};
-ghost use Rattle.ra_list_order.specs.Edges.{EachOnce, Extends, IsCycle};
+ghost use Rattle.ra_list_order.specs.Edges.{EachOnce, Extends, HasEdge, IsCycle};
 ghost use Rattle.ra_list_order.specs.ListOrder.{IsPut};
 
 use crate::edge::Edge;
@@ -54,6 +54,46 @@ impl ListOrder {
         ensures extends { Extends self.now.order self.now.edges }
     {
         let _elements = self.order.len();
+    }
+
+    /// Returns `true` if the element is in the order.
+    ///
+    /// # Complexity
+    ///
+    /// O(n) with `n` elements.
+    pub fn contains(&self, element: u32) -> bool
+        // The result is `true` exactly if the element is in the order.
+        ensures { IsTrue result ↔ Contains self.now.order element }
+    {
+        self.order.contains(&element)
+    }
+
+    /// Returns `true` if an edge from one element to another was added, whatever its label.
+    ///
+    /// # Complexity
+    ///
+    /// O(number of edges from `before`).
+    pub fn has_edge(&self, before: u32, after: u32) -> bool
+        // The result is `true` exactly if one of the edges is from `before` to `after`.
+        ensures { IsTrue result ↔ HasEdge self.now.edges before after }
+    {
+        self.edges.contains(before, after)
+    }
+
+    /// Returns the elements in order.
+    ///
+    /// # Errors
+    ///
+    /// `NoMemory` if allocation fails.
+    ///
+    /// # Complexity
+    ///
+    /// O(n) with `n` elements.
+    pub fn elements(&self, alloc: Global) -> Result<Vec<u32>, NoMemory>
+        // The result is the elements in the kept order.
+        ensures { IfOk result (λ elements. elements.items ≡ self.now.order) }
+    {
+        Ok(self.order.to_vec(alloc)?)
     }
 
     /// Inserts an element directly behind its left neighbour. Without a left neighbour the element is inserted directly

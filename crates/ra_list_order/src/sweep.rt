@@ -28,7 +28,12 @@ pub struct Swept {
 /// # Errors
 ///
 /// `NoMemory` if allocation fails.
-pub fn sweep(alloc: Global, stretch: &[u32], edges: &EdgePool, start: u32) -> Result<Swept, NoMemory>
+pub fn sweep(
+    alloc: Global,
+    stretch: &[u32],
+    edges: &EdgePool,
+    start: u32,
+) -> Result<Swept, NoMemory>
     ensures { IfOk result (λ swept.
         IsSwept stretch.now edges.now start swept.stays.items swept.moves.items swept.walked.items) }
 {

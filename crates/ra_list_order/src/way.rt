@@ -40,9 +40,10 @@ pub fn way_to(alloc: Global, start: u32, walked: &[Edge], goal: u32) -> Result<V
         left -= 1;
         let edge = walked[left];
         if edge.after == at {
-            way.insert(0, edge)?;
+            way.push(edge)?;
             at = edge.before;
         }
     }
+    way.reverse();
     Ok(way)
 }

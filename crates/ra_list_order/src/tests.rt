@@ -1,0 +1,162 @@
+//! Tests of what no clause states: calls succeed, and `add` returns a cycle exactly if the edge closes one.
+ghost use Rattle.std.specs.Prelude.{◌<◌};
+
+use crate::{Edge, ListOrder};
+use ra_labels::NoMemory;
+use std::alloc::Global;
+use std::process::Abort;
+use std::test::Fail;
+
+/// The number of elements, from 0 on.
+const ELEMENTS: u32 = 4;
+
+// Inserts an element behind another one, or at the front.
+fn put_behind(
+    rt: &impl Abort,
+    order: &mut ListOrder,
+    element: u32,
+    left: Option<u32>,
+) -> Result<(), NoMemory> {
+    assert!(rt; !order.contains(element));
+    match left {
+        Some(left) => {
+            assert!(rt; order.contains(left));
+            order.put(element, Some(left), None)
+        }
+        None => order.put(element, None, None),
+    }
+}
+
+// Inserts an element before another one.
+fn put_before(
+    rt: &impl Abort,
+    order: &mut ListOrder,
+    element: u32,
+    right: u32,
+) -> Result<(), NoMemory> {
+    assert!(rt; !order.contains(element));
+    assert!(rt; order.contains(right));
+    order.put(element, None, Some(right))
+}
+
+// Adds an edge between two elements of the order.
+fn add(
+    rt: &impl Abort,
+    alloc: Global,
+    order: &mut ListOrder,
+    edge: Edge,
+) -> Result<Option<Vec<Edge>>, NoMemory> {
+    assert!(rt; order.contains(edge.before));
+    assert!(rt; order.contains(edge.after));
+    order.add(alloc, edge.before, edge.after, edge.label)
+}
+
+const fn edge(before: u32, after: u32, label: u32) -> Edge {
+    Edge {
+        before,
+        after,
+        label,
+    }
+}
+
+fn order_of_elements(rt: &impl Abort, alloc: Global) -> Result<ListOrder, NoMemory> {
+    let mut order = ListOrder::new(alloc);
+    put_behind(rt, &mut order, 0, None)?;
+    for element in 1..ELEMENTS {
+        put_behind(rt, &mut order, element, Some(element - 1))?;
+    }
+    Ok(order)
+}
+
+// Which elements are reachable from which, by the edges that were added.
+fn empty_reach() -> [[bool; 4]; 4] {
+    let mut reach = [[false; 4]; 4];
+    for i in 0..4usize {
+        reach[i][i] = true;
+    }
+    reach
+}
+
+fn extend_reach(reach: &mut [[bool; 4]; 4], before: usize, after: usize)
+    requires before { before < 4 }
+    requires after { after < 4 }
+{
+    for i in 0..4usize {
+        for j in 0..4usize {
+            if reach[i][before] && reach[after][j] {
+                reach[i][j] = true;
+            }
+        }
+    }
+}
+
+// Every sequence of four edges among four elements: an edge is rejected exactly if its end already reaches its beginning
+// along the edges that were added.
+#[test]
+fn rejects_exactly_cycles(rt: HostRuntime) -> Result<(), Fail> {
+    let alloc = rt.alloc();
+    let mut added = 0u32;
+    let mut rejected = 0u32;
+    for code in 0..65536u32 {
+        let mut order = order_of_elements(&rt, alloc)?;
+        let mut reach = empty_reach();
+        let mut rest = code;
+        for label in 0..4u32 {
+            let before = rest % ELEMENTS;
+            let after = rest / ELEMENTS % ELEMENTS;
+            rest /= ELEMENTS * ELEMENTS;
+            let has = order.has_edge(before, after);
+            let cyclic = reach[after as usize][before as usize];
+            if add(&rt, alloc, &mut order, edge(before, after, label))?.is_some() {
+                assert!(rt; cyclic, "rejected at {code}");
+                assert!(rt; !has);
+                rejected += 1;
+            } else {
+                assert!(rt; !cyclic, "added at {code}");
+                assert!(rt; order.has_edge(before, after));
+                extend_reach(&mut reach, before as usize, after as usize);
+                added += 1;
+            }
+        }
+    }
+    assert!(rt; added > 1000 && rejected > 1000, "{added} {rejected}");
+    Ok(())
+}
+
+#[test]
+fn returns_cycle_of_three(rt: HostRuntime) -> Result<(), Fail> {
+    let alloc = rt.alloc();
+    let mut order = order_of_elements(&rt, alloc)?;
+    assert!(rt; add(&rt, alloc, &mut order, edge(2, 1, 0))?.is_none());
+    assert!(rt; add(&rt, alloc, &mut order, edge(1, 0, 1))?.is_none());
+    let cycle = add(&rt, alloc, &mut order, edge(0, 2, 2))?.ok_or("no cycle")?;
+    let expected = [edge(0, 2, 2), edge(2, 1, 0), edge(1, 0, 1)];
+    assert_eq!(rt; cycle.as_slice(), expected.as_slice());
+    Ok(())
+}
+
+#[test]
+fn puts_next_to_neighbours(rt: HostRuntime) -> Result<(), Fail> {
+    let alloc = rt.alloc();
+    let mut order = ListOrder::new(alloc);
+    put_behind(&rt, &mut order, 1, None)?;
+    put_behind(&rt, &mut order, 2, Some(1))?;
+    put_before(&rt, &mut order, 3, 2)?;
+    put_behind(&rt, &mut order, 4, None)?;
+    assert!(rt; order.contains(3) && !order.contains(5));
+    assert_eq!(rt; order.elements(alloc)?.as_slice(), [4, 1, 3, 2].as_slice());
+    Ok(())
+}
+
+#[test]
+fn keeps_earliest_edges(rt: HostRuntime) -> Result<(), Fail> {
+    let alloc = rt.alloc();
+    let mut order = order_of_elements(&rt, alloc)?;
+    assert!(rt; add(&rt, alloc, &mut order, edge(3, 0, 0))?.is_none());
+    assert!(rt; add(&rt, alloc, &mut order, edge(3, 1, 1))?.is_none());
+    order.keep_edges(1);
+    assert!(rt; order.has_edge(3, 0) && !order.has_edge(3, 1));
+    assert!(rt; add(&rt, alloc, &mut order, edge(0, 3, 2))?.is_some());
+    assert!(rt; add(&rt, alloc, &mut order, edge(1, 3, 3))?.is_none());
+    Ok(())
+}
