@@ -6,5 +6,6 @@ pub mod Ends
 pub mod Listings
 pub mod Members
 pub mod Puts
+pub mod Sequences
 pub mod Sweeps
 pub mod Ways

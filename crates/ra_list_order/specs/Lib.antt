@@ -3,4 +3,5 @@ pub mod Edges
 pub mod ListOrder
 pub mod Listing
 pub mod Marks
+pub mod Sequence
 pub mod Sweep

@@ -9,6 +9,7 @@
 mod edge;
 mod edge_pool;
 mod list_order;
+mod sequence;
 mod sweep;
 #[cfg(test)]
 mod tests;

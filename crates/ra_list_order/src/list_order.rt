@@ -7,6 +7,7 @@ ghost use Rattle.ra_list_order.specs.ListOrder.{IsPut};
 
 use crate::edge::Edge;
 use crate::edge_pool::EdgePool;
+use crate::sequence::Sequence;
 use crate::sweep::sweep;
 use crate::way::{is_marked, way_to};
 use ra_labels::NoMemory;
@@ -17,7 +18,7 @@ use std::marker::Model;
 #[derive(Drop)]
 pub struct ListOrder {
     /// The elements in order.
-    order: Vec<u32>,
+    order: Sequence,
     /// The edges in the order in which they were added.
     edges: EdgePool,
 }
@@ -27,9 +28,9 @@ impl Model for ListOrder {
 
     ghost Value = { ListOrder };
 
-    ghost view = { λ a. record { order = a.order.items; edges = a.edges } };
+    ghost view = { λ a. record { order = a.order; edges = a.edges } };
 
-    ghost invariant = { λ a. ListOrderKept a.order.items a.edges };
+    ghost invariant = { λ a. ListOrderKept a.order a.edges };
 }
 
 impl ListOrder {
@@ -41,7 +42,7 @@ impl ListOrder {
         ensures edges { result.edges ≡ [] }
     {
         ListOrder {
-            order: Vec::new(alloc),
+            order: Sequence::new(alloc),
             edges: EdgePool::new(alloc),
         }
     }
@@ -53,19 +54,19 @@ impl ListOrder {
         // Each edge is from an element to a later one.
         ensures extends { Extends self.now.order self.now.edges }
     {
-        let _elements = self.order.len();
+        let _elements = self.order.as_slice();
     }
 
     /// Returns `true` if the element is in the order.
     ///
     /// # Complexity
     ///
-    /// O(n) with `n` elements.
+    /// O(log n) with `n` elements.
     pub fn contains(&self, element: u32) -> bool
         // The result is `true` exactly if the element is in the order.
         ensures { IsTrue result ↔ Contains self.now.order element }
     {
-        self.order.contains(&element)
+        self.order.contains(element)
     }
 
     /// Returns `true` if an edge from one element to another was added, whatever its label.
@@ -93,7 +94,7 @@ impl ListOrder {
         // The result is the elements in the kept order.
         ensures { IfOk result (λ elements. elements.items ≡ self.now.order) }
     {
-        Ok(self.order.to_vec(alloc)?)
+        Ok(self.order.as_slice().to_vec(alloc)?)
     }
 
     /// Inserts an element directly behind its left neighbour. Without a left neighbour the element is inserted directly
@@ -126,7 +127,7 @@ impl ListOrder {
         ensures failed { OnErr result (self.new ≡ self.old) }
     {
         let at = match left {
-            Some(left) => place_of(&self.order, left) + 1,
+            Some(left) => self.order.place_of(left) + 1,
             None => place_before(&self.order, right),
         };
         self.order.insert(at, element)?;
@@ -141,8 +142,8 @@ impl ListOrder {
     ///
     /// # Complexity
     ///
-    /// Two walks along the order. If `before` is not yet before `after`, then also one walk along the elements between
-    /// them, and for each element that moves a walk along all edges.
+    /// O(log n) with `n` elements and edges if `before` is already before `after`. Otherwise O((k + m) log n), where `k`
+    /// is the number of elements from `after` to `before`, and `m` the number of edges from those that move.
     pub fn add(
         &mut self,
         alloc: Global,
@@ -172,14 +173,19 @@ impl ListOrder {
             after,
             label,
         };
-        let first = place_of(&self.order, after);
-        let last = place_of(&self.order, before);
+        let first = self.order.place_of(after);
+        let last = self.order.place_of(before);
         if last < first {
             self.edges.push(edge)?;
             return Ok(None);
         }
         let end = last + 1;
-        let swept = sweep(alloc, &self.order[first..end], &self.edges, after)?;
+        let swept = sweep(
+            alloc,
+            &self.order.as_slice()[first..end],
+            &self.edges,
+            after,
+        )?;
         if is_marked(after, &swept.walked, before) {
             let mut cycle = way_to(alloc, after, &swept.walked, before)?;
             cycle.insert(0, edge)?;
@@ -188,7 +194,7 @@ impl ListOrder {
         let mut parts = swept.stays;
         parts.extend_from_slice(&swept.moves)?;
         self.edges.push(edge)?;
-        overwrite(&mut self.order, first, &parts);
+        self.order.overwrite(first, &parts);
         Ok(None)
     }
 
@@ -196,7 +202,7 @@ impl ListOrder {
     ///
     /// # Complexity
     ///
-    /// O(1) for each edge that is removed.
+    /// O(log n) with `n` edges for each edge that is removed.
     pub fn keep_edges(&mut self, count: usize)
         // The order is unchanged.
         ensures order { self.new.order ≡ self.old.order }
@@ -207,38 +213,14 @@ impl ListOrder {
     }
 }
 
-// Returns the index of the element.
-fn place_of(order: &[u32], element: u32) -> usize
-    requires { Contains order.now element }
-    ensures within { result < length order.now }
-    ensures there { slice_index order.now result ≡ element }
-{
-    for (i, x) in order.iter().enumerate() {
-        if *x == element {
-            return i;
-        }
-    }
-    unreachable!()
-}
-
 // Returns the index of the right neighbour; without one, that of the front.
-fn place_before(order: &[u32], right: Option<u32>) -> usize
+fn place_before(order: &Sequence, right: Option<u32>) -> usize
     requires { IfSome right (λ r. Contains order.now r) }
     ensures { MatchOption right (result ≡ 0)
         (λ r. (result < length order.now) × (slice_index order.now result ≡ r)) }
 {
     match right {
-        Some(right) => place_of(order, right),
+        Some(right) => order.place_of(right),
         None => 0,
     }
-}
-
-// Overwrites the elements from this index on with the parts.
-fn overwrite(order: &mut Vec<u32>, first: usize, parts: &[u32])
-    requires { first + length parts.now ≤ vec_len order.old }
-    ensures { order.new.items
-        ≡ take first order.old.items ++ (parts.now ++ drop (length parts.now) (drop first order.old.items)) }
-{
-    let end = first + parts.len();
-    order[first..end].copy_from_slice(parts);
 }

@@ -110,12 +110,12 @@ fn rejects_exactly_cycles(rt: HostRuntime) -> Result<(), Fail> {
             if add(&rt, alloc, &mut order, edge(before, after, label))?.is_some() {
                 assert!(rt; cyclic, "rejected at {code}");
                 assert!(rt; !has);
-                rejected += 1;
+                rejected = rejected.saturating_add(1);
             } else {
                 assert!(rt; !cyclic, "added at {code}");
                 assert!(rt; order.has_edge(before, after));
                 extend_reach(&mut reach, before as usize, after as usize);
-                added += 1;
+                added = added.saturating_add(1);
             }
         }
     }
