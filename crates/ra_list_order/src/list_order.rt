@@ -1,5 +1,5 @@
 //! The kept order and its edges.
-ghost use Rattle.std.specs.Prelude.{◌≡◌, ◌+◌, ◌<◌, ◌≤◌, ◌++◌, ◌∷◌, [], length, take, drop, vec_len, Contains, IfOk, OnOk, OnErr, IfSome, MatchOption, IsTrue, ◌↔◌, slice_index};
+ghost use Rattle.std.specs.Prelude.{◌≡◌, ◌<◌, ◌++◌, ◌∷◌, [], length, take, Contains, IfOk, OnOk, OnErr, IfSome, MatchOption, IsTrue, ◌↔◌, slice_index};
 ghost use Rattle.std.specs.List.Sorted.{IsPermutation};
 ghost use Rattle.ra_list_order.specs.declared.edge.Edge.{Edge};
 ghost use Rattle.ra_list_order.specs.Edges.{EachOnce, Extends, HasEdge, IsCycle};
@@ -142,8 +142,8 @@ impl ListOrder {
     ///
     /// # Complexity
     ///
-    /// O(log n) with `n` elements and edges if `before` is already before `after`. Otherwise O((k + m) log n), where `k`
-    /// is the number of elements from `after` to `before`, and `m` the number of edges from those that move.
+    /// With `n` elements and edges, O(log n) if `before` is already before `after`. Otherwise O((k + m) log n), where
+    /// `k` is the number of elements from `after` to `before`, and `m` that of the edges from those that move.
     pub fn add(
         &mut self,
         alloc: Global,

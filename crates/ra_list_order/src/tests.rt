@@ -90,8 +90,8 @@ fn extend_reach(reach: &mut [[bool; 4]; 4], before: usize, after: usize)
     }
 }
 
-// Every sequence of four edges among four elements: an edge is rejected exactly if its end already reaches its beginning
-// along the edges that were added.
+// Every sequence of four edges among four elements: an edge is rejected exactly if its end already reaches its
+// beginning along the edges that were added.
 #[test]
 fn rejects_exactly_cycles(rt: HostRuntime) -> Result<(), Fail> {
     let alloc = rt.alloc();
