@@ -42,9 +42,14 @@ same_number a b same = cc
 module _ (old new : ℕ → Option ℕ) (order places raised : List ℕ) (at x : ℕ) (placed : ArePlaced old order places)
     (within : at ≤ length order) (fresh : ¬ Contains order x) (set : IsPointed old new x (length places))
     (long : length raised ≡ length places) (few : length order < 2 ^ 63)
-    (each : (m : ℕ) → m < length places → IsRaised at (get_or places m 0) (get_or raised m 0)) where
+    (each : (m : ℕ) → m < length places → get_or places m 0 < length places
+    → IsRaised at (get_or places m 0) (get_or raised m 0)) where
   abbrev more : List ℕ
   more = insert order at x
+
+  raised_from : (m j : ℕ) → m < length places → get_or places m 0 ≡ j → j < length order
+      → IsRaised at (get_or places m 0) (get_or raised m 0)
+  raised_from m j low is below = let many = placed.as_many in each m low (omega (arith, is, below, many))
 
   -- an element that was there has the number that it had
   same_as_before : (k j : ℕ) → j < length order → get_or more k 0 ≡ get_or order j 0
@@ -75,7 +80,7 @@ module _ (old new : ℕ → Option ℕ) (order places raised : List ℕ) (at x :
       let longer = length-insert order at x within in
       elim (cases_lt k at) [
         | inl less ↦ moved_to k k (omega (arith, less, within)) (get_or-insert_below order at x 0 k less within)
-            (λ m low is. (each m low).lower (omega (arith, is, less)) ∙ is)
+            (λ m low is. (raised_from m k low is (omega (arith, less, within))).lower (omega (arith, is, less)) ∙ is)
         | inr more_than ↦ elim (cases_eq k at) [
           | inl same ↦
               let size = length_push raised at in
@@ -92,7 +97,7 @@ module _ (old new : ℕ → Option ℕ) (order places raised : List ℕ) (at x :
               moved_to k j low
               (ap (λ i. get_or more i 0) next
               ∙ get_or-insert_above order at x 0 j (omega (arith, more_than, other)) within)
-              (λ m less is. (each m less).higher (omega (arith, is, more_than, other)) (omega (arith, is, low, few))
+              (λ m less is. (raised_from m j less is low).higher (omega (arith, is, more_than, other)) (omega (arith, is, low, few))
               ∙ ap (λ i. i + 1) is ∙ sym next)
         ]
       ]
@@ -326,7 +331,8 @@ pub placed_inserted : (m n : BTreeMap ℕ ℕ) (order read new_order places read
     (at x number : ℕ) → ArePlaced (get nat_cmp m) order places → read ≡ order → read_places ≡ places
     → at ≤ length order → ¬ Contains order x → length order < 2 ^ 63 → number ≡ length read_places
     → Updates nat_cmp m n x (Some number) → new_order ≡ insert read at x → length raised ≡ length read_places
-    → ((k : ℕ) → k < length read_places → IsRaised at (get_or read_places k 0) (get_or raised k 0))
+    → ((k : ℕ) → k < length read_places → get_or read_places k 0 < length read_places
+    → IsRaised at (get_or read_places k 0) (get_or raised k 0))
     → new_places ≡ raised ++ at ∷ [] → ArePlaced (get nat_cmp n) new_order new_places
 placed_inserted m n order read new_order places read_places raised new_places at x number placed reads reads_places
     within fresh few number_is updates made long each made_places =
@@ -336,7 +342,8 @@ placed_inserted m n order read new_order places read_places raised new_places at
     (subst (λ xs. ArePlaced (get nat_cmp n) (insert order at x) xs) (sym made_places)
     (placed_insert (get nat_cmp m) (get nat_cmp n) order places raised at x placed within fresh set
     (long ∙ ap length reads_places) few
-    (subst (λ ps. (k : ℕ) → k < length ps → IsRaised at (get_or ps k 0) (get_or raised k 0)) reads_places each)))
+    (subst (λ ps. (k : ℕ) → k < length ps → get_or ps k 0 < length ps → IsRaised at (get_or ps k 0) (get_or raised k 0))
+    reads_places each)))
 
 pub chosen : (test : Bool) (items xs ys : List ℕ) → test ≡ true → items ≡ (if test then xs else ys) → items ≡ xs
 chosen true items xs ys is made = made

@@ -106,7 +106,7 @@ impl ListOrder {
     ///
     /// # Complexity
     ///
-    /// O(n) with `n` elements.
+    /// O(log n) at the end, and O(n) elsewhere, with `n` elements.
     pub fn put(
         &mut self,
         element: u32,

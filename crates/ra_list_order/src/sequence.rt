@@ -89,7 +89,7 @@ impl Sequence {
     ///
     /// # Complexity
     ///
-    /// O(n) with `n` elements.
+    /// O(log n) at the end, and O(n) elsewhere, with `n` elements.
     pub fn insert(&mut self, at: usize, element: u32) -> Result<(), NoMemory>
         requires within { at ≤ length self.old }
         requires new { ¬ Contains self.old element }
@@ -123,13 +123,16 @@ impl Sequence {
     }
 }
 
-// Adds one to each index from this one on.
+// Adds one to each index from this one on. At the end there is none.
 fn raise(places: &mut Vec<usize>, at: usize)
     ensures len { vec_len places.new ≡ vec_len places.old }
-    ensures raised { (m : ℕ) → m < vec_len places.old
+    ensures raised { (m : ℕ) → m < vec_len places.old → get_or places.old.items m 0 < vec_len places.old
         → IsRaised at (get_or places.old.items m 0) (get_or places.new.items m 0) }
     ensures capacity { vec_capacity places.new ≡ vec_capacity places.old }
 {
+    if at == places.len() {
+        return;
+    }
     for place in places.iter_mut() {
         if *place >= at {
             *place = place.saturating_add(1);

@@ -25,6 +25,6 @@ invariant_of-self-2 c =
     (c.len-number.ensures ∙ c.reserve.new.self.ok.0) c.in_ok-insert.ensures.updates
     (chosen _ _ _ _ (c.insert-2.ensures.succeeds (omega (arith, room))) c.insert-2.ensures.items)
     (sym c.raise.new.places.ok.0 ∙ c.raise.ensures.len ∙ c.reserve.new.self.ok.0)
-    (subst (λ n. (k : ℕ) → k < n → IsRaised c.args.at (get_or c.reserve.new.self.items k 0)
-    (get_or c.raise.new.places.items k 0)) c.reserve.new.self.ok.0 c.raise.ensures.raised)
+    (subst (λ n. (k : ℕ) → k < n → get_or c.reserve.new.self.items k 0 < n
+    → IsRaised c.args.at (get_or c.reserve.new.self.items k 0) (get_or c.raise.new.places.items k 0)) c.reserve.new.self.ok.0 c.raise.ensures.raised)
     c.push_reserved.ensures.items
