@@ -30,7 +30,9 @@ pub struct Remedies {
 impl Remedies {
     /// Creates an empty list of changes.
     pub fn new(alloc: Global) -> Remedies
+        // No change was tried.
         ensures tried { result.tried.items ≡ [] }
+        // No remedy was found.
         ensures found { result.found.items ≡ [] }
     {
         Remedies {
@@ -61,6 +63,7 @@ impl Remedies {
         places: &Places,
         violation: &Violation,
     ) -> Result<Remedies, NoMemory>
+        // The remedies are exactly those of the tried changes with which the violating label would hold.
         ensures holding { IfOk result (HoldWith setup.now log.now violation.now.place) }
     {
         let tried = changes_to_try(alloc, setup.kind, log, places, violation)?;

@@ -59,8 +59,12 @@ impl Violation {
         fault: Fault,
         purpose: Purpose,
     ) -> Result<Violation, NoMemory>
+        // The places are those of the labels in the monitor's log.
         requires places { places.now ≡ places_in monitor.now.log }
+        // The fault is that of the monitor's log.
         requires fault { fault_in monitor.now.setup monitor.now.log ≡ Some fault }
+        // The violation has that fault, its label's index, replica and command, the expected answer, the missing
+        // updates, and the labels with greater stamps.
         ensures found { IfOk result (λ violation. IsFound monitor.now.setup monitor.now.log purpose violation) }
     {
         let (place, replica, reported) = reported_at(monitor, places, fault)?;
