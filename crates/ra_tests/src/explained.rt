@@ -172,15 +172,26 @@ fn monitor_of(rt: &impl Abort, alloc: Global, row: &Row, calls: u32) -> Monitor 
     reporter.into_monitor()
 }
 
-// Returns the command with the expected answer. If an allocation fails, it is computed once more.
-fn expected_of(rt: &impl Abort, alloc: Global, row: &Row, calls: u32) -> Option<Command> {
+// Returns `true` if the explanation's violation has this expected answer.
+fn has_answer(explanation: &Explanation, want: &Option<Op>) -> bool {
+    let Some(violation) = &explanation.violation else {
+        return want.is_none();
+    };
+    match (&violation.expected, want) {
+        (Some(Command::Operate { op, .. }), Some(other)) => *op == *other,
+        (None, None) => true,
+        _ => false,
+    }
+}
+
+// Returns `true` if the row's history is explained with this answer, after this many further calls. If an allocation
+// fails, it is explained once more.
+fn is_explained(rt: &impl Abort, alloc: Global, row: &Row, calls: u32, want: &Option<Op>) -> bool {
     for _attempt in 0..2 {
         let monitor = monitor_of(rt, alloc, row, calls);
-        if let Ok(explanation) = Explanation::of(alloc, monitor, Purpose::Object) {
-            return match explanation.violation {
-                Some(violation) => violation.expected,
-                None => None,
-            };
+        match Explanation::of(alloc, monitor, Purpose::Object) {
+            Ok(explanation) => return has_answer(&explanation, want),
+            Err(_) => {}
         }
     }
     panic!(rt; "no memory")
@@ -188,16 +199,12 @@ fn expected_of(rt: &impl Abort, alloc: Global, row: &Row, calls: u32) -> Option<
 
 // Asserts that this is the expected answer, at the fault and after a further call, which has the same reply.
 fn is_expected(rt: &impl Abort, alloc: Global, row: &Row) {
+    let want = match row.expected {
+        Some(say) => Some(operation_of(rt, alloc, say)),
+        None => None,
+    };
     for calls in 0..2 {
-        let expected = match expected_of(rt, alloc, row, calls) {
-            Some(Command::Operate { op, .. }) => Some(op),
-            _ => None,
-        };
-        let want = match row.expected {
-            Some(say) => Some(operation_of(rt, alloc, say)),
-            None => None,
-        };
-        assert!(rt; expected == want, "{}", row.name);
+        assert!(rt; is_explained(rt, alloc, row, calls, &want), "{}", row.name);
     }
 }
 
