@@ -21,7 +21,7 @@ reaches replica command = false
 -- `true` if with the change the command at this position of the log is left out
 abbrev pub is_left_out : Change → ℕ → ℕ → Command → Bool
 is_left_out (Gets label) replica place command = false
-is_left_out (Misses at) replica place command = place == at
+is_left_out (Misses at) replica place command = (place == at) && reaches replica command
 is_left_out (ComesBefore at) replica place command = not (nat_lt place at) && reaches replica command
 
 -- `true` if the command was accepted and is not left out

@@ -56,7 +56,8 @@ expected_where kind records (Some fault) = if is_query fault.cause then expected
 abbrev pub expected_answer_in : Setup → List MonitorEntry → Option Op
 expected_answer_in setup log = expected_where setup.kind (records_of setup log) (fault_in setup log)
 
--- the command's operation, with the expected answer after the updates before the fault that were delivered to its replica
+-- the command's operation, with the expected answer after the updates before the fault that were delivered to its
+-- replica
 abbrev pub expected_by : Setup → List MonitorEntry → Command → Option Op
 expected_by setup log (Operate by operation clock) =
     option_and_then (λ state. expected_in state operation) (replica_state setup log by)

@@ -1,5 +1,5 @@
 -- The explanation of a log: its violation, with the reasons, and the changes that remove it.
-use Rattle.std.specs.Prelude.{◌≡◌, ℕ, ◌==◌, Bool, true, false, ◌&&◌, List, [], Option, Some, None, filter, map, option_map}
+use Rattle.std.specs.Prelude.{◌≡◌, ℕ, ◌+◌, ◌==◌, nat_lt, Bool, true, false, ◌&&◌, List, [], ◌∷◌, length, Option, Some, None, filter, map, option_map, option_and_then, if◌then◌else◌}
 use Rattle.std.specs.List.{range_with_len, slice_get}
 use Rattle.ra_labels.specs.declared.command.Command.{Command}
 use Rattle.ra_labels.specs.declared.command.Command.TheVariants.{Operate, Deliver}
@@ -9,9 +9,10 @@ use Rattle.ra_labels.specs.declared.reply.Cause.TheVariants as cause
 use Rattle.ra_labels.specs.declared.reply.Fault.{Fault}
 use Rattle.ra_labels.specs.declared.reply.Reply.{Reply}
 use Rattle.ra_labels.specs.declared.reply.Reply.TheVariants.{Got}
-use Rattle.ra_labels.specs.Records.{replica_count, stamp_at}
+use Rattle.ra_labels.specs.Records.{label_count, replica_count, stamp_at}
+use Rattle.ra_monitor.specs.declared.report.Report.{Report}
 use Rattle.ra_monitor.specs.declared.setup.Setup.{Setup}
-use Rattle.ra_monitor.specs.Monitor.{MonitorEntry, records_of, fault_in}
+use Rattle.ra_monitor.specs.Monitor.{MonitorEntry, records_of, fault_in, refused_count}
 use Rattle.ra_explain.specs.declared.explanation.Purpose.{Purpose}
 use Rattle.ra_explain.specs.declared.explanation.Purpose.TheVariants as purpose
 use Rattle.ra_explain.specs.declared.label_filter.LabelFilter.TheVariants.{MissingAt, StandAbove}
@@ -61,6 +62,19 @@ abbrev pub HoldWith : Setup → List MonitorEntry → ℕ → Remedies → Type 
 HoldWith setup log place remedies =
     remedies.found.items ≡ filter (λ change. would_hold setup log place change) remedies.tried.items
 
+-- holds if no change was tried and none was found
+pub record AreNone (remedies : Remedies) : Type 0 where
+  pub tried : remedies.tried.items ≡ []
+  pub found : remedies.found.items ≡ []
+
+-- holds if the report states the kind, the counts and the fault of the log
+pub record IsReport (setup : Setup) (log : List MonitorEntry) (report : Report) : Type 0 where
+  pub kind : report.kind ≡ setup.kind
+  pub calls : report.calls ≡ length log
+  pub labels : report.labels ≡ label_count (records_of setup log)
+  pub refused : report.refused ≡ refused_count log
+  pub fault : report.fault ≡ fault_in setup log
+
 -- what was not delivered to each replica at the end of the log
 abbrev pub all_undelivered : Setup → List MonitorEntry → List Undelivered
 all_undelivered setup log =
@@ -84,8 +98,17 @@ is_got reply = false
 abbrev pub delivers : MonitorEntry → ℕ → ℕ → Bool
 delivers entry replica n = is_delivery_of replica n entry.command && is_got entry.reply
 
--- holds if the entry at this position is an accepted delivery of label n to the replica
-pub record IsDelivery (log : List MonitorEntry) (replica n place : ℕ) : Type 0 where
-  pub entry : MonitorEntry
-  pub found : slice_get log place ≡ Some entry
-  pub delivered : delivers entry replica n ≡ true
+-- the position of the first of these entries that is an accepted delivery of label n to the replica; the entries begin
+-- at the given position
+abbrev pub delivery_from : ℕ → ℕ → ℕ → List MonitorEntry → Option ℕ
+delivery_from replica n place [] = None
+delivery_from replica n place (entry ∷ log) =
+    if delivers entry replica n then Some place else delivery_from replica n (place + 1) log
+
+-- the position if it fits into 32 bits, as each position of a monitor's log does
+abbrev pub in_32_bits : ℕ → Option ℕ
+in_32_bits place = if nat_lt place 4294967296 then Some place else None
+
+-- the position of the entry that delivered label n to the replica, or none if there is none
+abbrev pub delivery_of : List MonitorEntry → ℕ → ℕ → Option ℕ
+delivery_of log replica n = option_and_then in_32_bits (delivery_from replica n 0 log)

@@ -7,4 +7,5 @@ pub mod Expected
 pub mod Undelivered
 pub mod Rejected
 pub mod Explanation
+pub mod Explains
 pub mod LastDeliveries

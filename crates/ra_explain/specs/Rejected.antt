@@ -2,12 +2,11 @@
 use Rattle.std.specs.Prelude.{ℕ, ◌+◌, nat_lt, ◌&&◌, List, [], ◌∷◌, ◌++◌, length, if◌then◌else◌}
 use Rattle.ra_monitor.specs.Monitor.{MonitorEntry}
 use Rattle.ra_monitor.specs.Replies.{is_refused}
-use Rattle.ra_explain.specs.declared.rejected.TheConstants.{MOST_REJECTED}
 
--- the positions with that of this entry, if it is rejected and there is room
+-- the positions with that of this entry, if it is rejected and fewer than ten are there
 abbrev pub with_rejected : List ℕ → ℕ → MonitorEntry → List ℕ
 with_rejected places at entry =
-    if is_refused entry.reply && nat_lt (length places) MOST_REJECTED then places ++ at ∷ [] else places
+    if is_refused entry.reply && nat_lt (length places) 10 then places ++ at ∷ [] else places
 
 -- the positions after these entries, the first of which is at this position
 abbrev pub rejected_from : ℕ → List ℕ → List MonitorEntry → List ℕ

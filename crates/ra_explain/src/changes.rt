@@ -247,7 +247,7 @@ fn is_left_out(change: Change, replica: u8, place: usize, command: &Command) -> 
 {
     match change {
         Change::Gets(_) => false,
-        Change::Misses(at) => place == at as usize,
+        Change::Misses(at) => place == at as usize && reaches(replica, command),
         Change::ComesBefore(at) => place >= at as usize && reaches(replica, command),
     }
 }

@@ -15,8 +15,8 @@ use ra_seqspec::State;
 use std::alloc::Global;
 
 /// Returns the operation of the violating label with the expected answer in place of its own: the specification's after
-/// the updates delivered to its replica, in the named order. Returns `None` if the fault's cause is not the query, or if
-/// those updates are not admitted, so that no answer is possible.
+/// the updates delivered to its replica, in the named order. Returns `None` if the fault's cause is not the query, or
+/// if those updates are not admitted, so that no answer is possible.
 ///
 /// # Errors
 ///

@@ -1,8 +1,8 @@
 //! The explanation of a monitor's history, as plain data.
 ghost use Rattle.std.specs.Prelude.{◌≡◌, IfOk, IfSome, MatchOption, None, Some, option_map, slice_get};
 ghost use Rattle.ra_labels.specs.Records.{replica_count};
-ghost use Rattle.ra_monitor.specs.Monitor.{fault_in, records_of};
-ghost use Rattle.ra_explain.specs.Explanation.{IsDelivery, IsFound, HoldWith, delivers, undelivered_for};
+ghost use Rattle.ra_monitor.specs.Monitor.{IsLegalLog, fault_in, records_of};
+ghost use Rattle.ra_explain.specs.Explanation.{AreNone, IsFound, IsReport, HoldWith, delivers, delivery_of, undelivered_for};
 ghost use Rattle.ra_explain.specs.Origin.{operation_of, origin_of};
 ghost use Rattle.ra_explain.specs.Places.{places_in};
 ghost use Rattle.ra_explain.specs.Rejected.{first_rejected};
@@ -72,6 +72,10 @@ impl Explanation {
         ensures setup { IfOk result (λ it. it.setup ≡ monitor.setup) }
         // The explanation has the log of the given monitor.
         ensures log { IfOk result (λ it. it.log.items ≡ monitor.log) }
+        // The log is legal: each reply is the single-threaded monitor's answer after the entries before it.
+        ensures legal { IfOk result (λ it. IsLegalLog monitor.setup it.log.items) }
+        // The report states the kind, the number of calls, labels and rejections, and the fault of the log.
+        ensures report { IfOk result (λ it. IsReport monitor.setup monitor.log it.report) }
         // The places are the indices of the labels in the log, by their numbers.
         ensures places { IfOk result (λ it. it.places ≡ places_in monitor.log) }
         // The number of replicas is that of the monitor, those that joined included.
@@ -79,16 +83,17 @@ impl Explanation {
             it.replicas ≡ replica_count monitor.setup.replicas (records_of monitor.setup monitor.log)) }
         // If the purpose needs it, the list has for each replica the number of the updates that were not delivered to
         // it, and the oldest of them; otherwise it is empty.
-        ensures undelivered { IfOk result (λ it.
-            it.undelivered.items ≡ undelivered_for monitor.setup monitor.log purpose (fault_in monitor.setup monitor.log)) }
+        ensures undelivered { IfOk result (λ it. it.undelivered.items
+            ≡ undelivered_for monitor.setup monitor.log purpose (fault_in monitor.setup monitor.log)) }
         // The rejected entries are the first ten of the log whose reply is a rejection.
         ensures rejected { IfOk result (λ it. it.rejected.items ≡ first_rejected monitor.log) }
         // There is a violation exactly if the log has a fault. It has that label, its index, its replica and its
         // command, the expected answer, the missing updates, and the labels with greater stamps.
         ensures violation { IfOk result (λ it. MatchOption it.violation (fault_in monitor.setup monitor.log ≡ None)
             (λ violation. IsFound monitor.setup monitor.log purpose violation)) }
-        // The remedies are exactly those of the tried changes with which the violating label would hold.
-        ensures remedies { IfOk result (λ it. IfSome it.violation (λ violation.
+        // The remedies are exactly those of the tried changes with which the violating label would hold; without a
+        // violation no change is tried.
+        ensures remedies { IfOk result (λ it. MatchOption it.violation (AreNone it.remedies) (λ violation.
             HoldWith monitor.setup monitor.log violation.place it.remedies)) }
     {
         let places = Places::of(alloc, &monitor)?;
@@ -152,20 +157,23 @@ impl Explanation {
         self.origin(label).map(|origin| origin.replica)
     }
 
-    /// Returns the index of the entry that delivered the label to the replica, or `None` if there is none: the replica
-    /// issued the label, joined with it, or lacks it.
+    /// Returns the index of the first entry that delivered the label to the replica, or `None` if there is none: the
+    /// replica issued the label, joined with it, or lacks it.
     ///
     /// # Complexity
     ///
     /// O(number of entries).
     pub fn delivery(&self, replica: u8, label: u32) -> Option<u32>
-        // The entry at this index of the log is an accepted delivery of the label to the replica.
-        ensures { IfSome result (IsDelivery self.now.log.items replica label) }
+        // The result is the index of the first accepted delivery of the label to the replica, or `None` exactly if
+        // there is none.
+        ensures { result ≡ delivery_of self.now.log.items replica label }
     {
-        for (place, entry) in self.log.iter().enumerate() {
+        let mut place: usize = 0;
+        for entry in &self.log {
             if delivers(entry, replica, label) {
                 return u32::try_from(place).ok();
             }
+            place += 1;
         }
         None
     }
@@ -212,7 +220,7 @@ fn remedies_for(
     places: &Places,
     violation: &Option<Violation>,
 ) -> Result<Remedies, NoMemory>
-    ensures { IfOk result (λ remedies. IfSome violation.now (λ violation.
+    ensures { IfOk result (λ remedies. MatchOption violation.now (AreNone remedies) (λ violation.
         HoldWith setup.now log.now violation.place remedies)) }
 {
     match violation {

@@ -35,8 +35,8 @@ pub fn fault_label_found()
         → command_at log (places_in log) fault.label ≡ Some (operate last) }
 {}
 
-/// Theorem: the expected answer in a state is what the specification reads there. It is a counter's number, the value of
-/// the last write, the elements of a set, the identifiers of an element, or the visible elements of a list.
+/// Theorem: the expected answer in a state is what the specification reads there. It is a counter's number, the value
+/// of the last write, the elements of a set, the identifiers of an element, or the visible elements of a list.
 pub fn expected_result()
     ensures counter { (number told : ℤ) → expected_in (Number number) (op.Count told) ≡ Some (op.Count number) }
     ensures register { (last told : Option ℕ) → expected_in (Written last) (op.Last told) ≡ Some (op.Last last) }
