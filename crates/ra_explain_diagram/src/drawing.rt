@@ -1,9 +1,9 @@
 //! The content of a picture: rows from top to bottom, and a column for each replica that takes part, up to eight.
-ghost use Rattle.std.specs.Prelude.{◌≡◌};
-ghost use Rattle.ra_explain_diagram.specs.Drawn.{replica_of};
+ghost use Rattle.std.specs.Prelude.{◌≡◌, All, Contains, IfOk, OnOk};
+ghost use Rattle.ra_explain_diagram.specs.Drawn.{IsHelpful, replica_of, source_of};
 
 use crate::chosen::places_of;
-use ra_explain::{Change, Violation};
+use ra_explain::{Change, Remedies, Violation};
 use ra_explain_text::{View, shown};
 use ra_labels::{Command, NoMemory, Reply};
 use std::alloc::Global;
@@ -48,7 +48,15 @@ pub struct Picture {
 
 impl Picture {
     /// Returns the picture of this label.
-    pub fn of(alloc: Global, view: &View<'_>, violation: &Violation) -> Result<Picture, NoMemory> {
+    ///
+    /// # Errors
+    ///
+    /// `NoMemory` if an allocation fails.
+    pub fn of(alloc: Global, view: &View<'_>, violation: &Violation) -> Result<Picture, NoMemory>
+        // Each row for a change shows one of the remedies.
+        ensures helpful { IfOk result (λ picture.
+            All (IsHelpful view.now.explanation.now.remedies) picture.rows.items) }
+    {
         let places = places_of(alloc, view, violation)?;
         let columns = columns_of(alloc, view, violation, &places)?;
         let mut rows = Vec::new(alloc);
@@ -92,21 +100,45 @@ fn add_rows(
     view: &View<'_>,
     violation: &Violation,
     at: u32,
-) -> Result<(), NoMemory> {
+) -> Result<(), NoMemory>
+    requires { All (IsHelpful view.now.explanation.now.remedies) rows.old.items }
+    ensures { OnOk result (All (IsHelpful view.now.explanation.now.remedies) rows.new.items) }
+{
     let mut row = if at == violation.place {
         Row::Asked
     } else {
         Row::Entry(at)
     };
-    for change in shown(&view.explanation.remedies) {
-        match change {
-            Change::Gets(label) if at == violation.place => rows.push(Row::With(*label))?,
-            Change::Misses(missed) if *missed == at => row = Row::Without(at),
-            Change::ComesBefore(next) if *next == at => rows.push(Row::Before(at))?,
-            _ => {}
-        }
+    let remedies = &view.explanation.remedies;
+    for change in shown(remedies) {
+        row = add_change(rows, row, remedies, violation.place, at, *change)?;
     }
     Ok(rows.push(row)?)
+}
+
+// Appends the row of the change if it is drawn before the entry at this index. Returns the row of the entry, which is
+// another one if the change leaves the entry out.
+fn add_change(
+    rows: &mut Vec<Row>,
+    row: Row,
+    remedies: &Remedies,
+    asked: u32,
+    at: u32,
+    change: Change,
+) -> Result<Row, NoMemory>
+    requires helpful { All (IsHelpful remedies.now) rows.old.items }
+    requires own { IsHelpful remedies.now row }
+    requires found { Contains remedies.now.found.items change }
+    ensures helpful { OnOk result (All (IsHelpful remedies.now) rows.new.items) }
+    ensures own { IfOk result (IsHelpful remedies.now) }
+{
+    match change {
+        Change::Gets(label) if at == asked => rows.push(Row::With(label))?,
+        Change::Misses(missed) if missed == at => return Ok(Row::Without(at)),
+        Change::ComesBefore(next) if next == at => rows.push(Row::Before(at))?,
+        _ => {}
+    }
+    Ok(row)
 }
 
 // Returns `true` if the entry at this index happened at a replica with a column.
@@ -173,7 +205,9 @@ fn join_of(view: &View<'_>, replica: u8) -> Option<u32> {
 /// Returns the ends of an entry's arrow: the replica that a label or a state comes from, if any, and the one that has
 /// it then.
 pub fn ends_of(view: &View<'_>, command: &Command) -> (Option<u8>, Option<u8>)
-    ensures { result.1 ≡ replica_of command.now }
+    ensures source { result.0
+        ≡ source_of view.now.explanation.now.log.items view.now.explanation.now.places command.now }
+    ensures replica { result.1 ≡ replica_of command.now }
 {
     match command {
         Command::Operate { replica, .. } => (None, Some(*replica)),

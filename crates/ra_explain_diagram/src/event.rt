@@ -1,7 +1,7 @@
 //! The event that a row of a picture shows.
-ghost use Rattle.std.specs.Prelude.{◌≡◌, ◌++◌, false, IfOk, IfSome, OnOk};
+ghost use Rattle.std.specs.Prelude.{◌≡◌, ◌++◌, false, IfOk, MatchOption, None, OnOk, slice_get};
 ghost use Rattle.ra_history_writer.specs.Spelling.{line_of};
-ghost use Rattle.ra_explain_diagram.specs.Drawn.{IsOfLog, IsViolating, IsEarlier, IsDelivered, IsDrawn, behind_space, event_words};
+ghost use Rattle.ra_explain_diagram.specs.Drawn.{IsOfLog, IsViolating, IsEarlier, IsDelivered, IsDrawn, ShowsNone, behind_space, event_words};
 
 use crate::drawing::{Row, ends_of};
 use ra_explain::Violation;
@@ -40,16 +40,17 @@ impl Event {
         violation: &Violation,
         row: Row,
     ) -> Result<Option<Event>, NoMemory>
-        ensures drawn { IfOk result (λ event. IfSome event (IsDrawn view.now.names.now
-            view.now.explanation.now.log.items violation.now row)) }
+        ensures drawn { IfOk result (λ event. MatchOption event (ShowsNone view.now.explanation.now.log.items row)
+            (IsDrawn view.now.names.now view.now.explanation.now.log.items view.now.explanation.now.places
+            violation.now row)) }
     {
         match row {
             Row::Fold(_) => Ok(None),
             Row::Entry(place) => Event::at(alloc, view, place, false),
             Row::Without(place) => Event::at(alloc, view, place, true),
-            Row::Asked => Event::asked(alloc, view.names, violation),
-            Row::Before(place) => Event::before(alloc, view.names, violation, place),
-            Row::With(label) => Event::with(alloc, view, violation, label),
+            Row::Asked => Ok(Some(Event::asked(alloc, view.names, violation)?)),
+            Row::Before(place) => Ok(Some(Event::before(alloc, view.names, violation, place)?)),
+            Row::With(label) => Ok(Some(Event::with(alloc, view, violation, label)?)),
         }
     }
 
@@ -59,8 +60,10 @@ impl Event {
         place: u32,
         is_dashed: bool,
     ) -> Result<Option<Event>, NoMemory>
-        ensures { IfOk result (λ event. IfSome event (IsOfLog view.now.names.now
-            view.now.explanation.now.log.items place is_dashed)) }
+        ensures { IfOk result (λ event. MatchOption event
+            (slice_get view.now.explanation.now.log.items place ≡ None)
+            (IsOfLog view.now.names.now view.now.explanation.now.log.items view.now.explanation.now.places place
+            is_dashed)) }
     {
         let Some(entry) = view.explanation.entry(place) else {
             return Ok(None);
@@ -82,8 +85,8 @@ impl Event {
     }
 
     // Returns the violating label.
-    fn asked(alloc: Global, names: &Names, violation: &Violation) -> Result<Option<Event>, NoMemory>
-        ensures { IfOk result (λ event. IfSome event (IsViolating names.now violation.now)) }
+    fn asked(alloc: Global, names: &Names, violation: &Violation) -> Result<Event, NoMemory>
+        ensures { IfOk result (IsViolating names.now violation.now) }
     {
         let mut head = Vec::new(alloc);
         put_line(&mut head, violation.place)?;
@@ -91,7 +94,7 @@ impl Event {
         put_numbered(&mut words, b"", violation.fault.label)?;
         put(&mut words, "? ")?;
         put_body(&mut words, names, &violation.reported)?;
-        Ok(Some(Event {
+        Ok(Event {
             head,
             words,
             from: None,
@@ -99,7 +102,7 @@ impl Event {
             place: violation.place,
             is_dashed: false,
             is_asked: true,
-        }))
+        })
     }
 
     // Returns the violating label as it would hold, before the entry at this index.
@@ -108,8 +111,8 @@ impl Event {
         names: &Names,
         violation: &Violation,
         place: u32,
-    ) -> Result<Option<Event>, NoMemory>
-        ensures { IfOk result (λ event. IfSome event (IsEarlier names.now violation.now place)) }
+    ) -> Result<Event, NoMemory>
+        ensures { IfOk result (IsEarlier names.now violation.now place) }
     {
         let mut head = Vec::new(alloc);
         put(&mut head, "or here")?;
@@ -117,7 +120,7 @@ impl Event {
         put_numbered(&mut words, b"", violation.fault.label)?;
         put(&mut words, ": ")?;
         put_body(&mut words, names, &violation.reported)?;
-        Ok(Some(Event {
+        Ok(Event {
             head,
             words,
             from: None,
@@ -125,7 +128,7 @@ impl Event {
             place,
             is_dashed: true,
             is_asked: true,
-        }))
+        })
     }
 
     // Returns the delivery of this label just before the violating one.
@@ -134,14 +137,15 @@ impl Event {
         view: &View<'_>,
         violation: &Violation,
         label: u32,
-    ) -> Result<Option<Event>, NoMemory>
-        ensures { IfOk result (λ event. IfSome event (IsDelivered violation.now label)) }
+    ) -> Result<Event, NoMemory>
+        ensures { IfOk result (IsDelivered view.now.explanation.now.log.items view.now.explanation.now.places
+            violation.now label) }
     {
         let mut head = Vec::new(alloc);
         put(&mut head, "or with")?;
         let mut words = Vec::new(alloc);
         put_numbered(&mut words, b"got ", label)?;
-        Ok(Some(Event {
+        Ok(Event {
             head,
             words,
             from: view.explanation.issuer(label),
@@ -149,7 +153,7 @@ impl Event {
             place: violation.place,
             is_dashed: true,
             is_asked: false,
-        }))
+        })
     }
 }
 

@@ -1,25 +1,46 @@
 //! The explanation as one HTML document: the text, the picture, and its rows as a table for screen readers.
+ghost use Rattle.std.specs.Prelude.{◌≡◌, ℕ, List, OnOk};
+ghost use Rattle.ra_explain_text.specs.Document.{ContainsText};
+ghost use Rattle.ra_explain_text.specs.Words.{IsText};
+
 use crate::drawing::Picture;
 use crate::event::Event;
 use crate::picture::put_left_out;
 use crate::svg::{put_answer, put_drawing};
 use ra_explain::Violation;
-use ra_explain_text::{View, put, put_end, put_escaped, put_name, put_start, put_words};
+use ra_explain_text::{View, put, put_document, put_escaped, put_name, put_words};
 use ra_labels::NoMemory;
+use std::alloc::Global;
 
 /// Appends the document of a checked history: the text, and for a violation the picture.
-pub fn put_html(out: &mut Vec<u8>, view: &View<'_>) -> Result<(), NoMemory> {
-    let mut title = Vec::new(*out.allocator());
+///
+/// # Errors
+///
+/// `NoMemory` if an allocation fails.
+pub fn put_html(out: &mut Vec<u8>, view: &View<'_>) -> Result<(), NoMemory>
+    // After success, a document is appended that contains the text of the explanation, with its characters escaped as
+    // HTML requires.
+    ensures { OnOk result ((words : List ℕ) × IsText view.now.names.now view.now.explanation.now words
+        × ContainsText out.old.items out.new.items words) }
+{
+    let alloc = *out.allocator();
+    let mut title = Vec::new(alloc);
     put_answer(&mut title, &view.explanation.report)?;
-    let mut words = Vec::new(*out.allocator());
+    let mut words = Vec::new(alloc);
     put_words(&mut words, view)?;
-    put_start(out, &title, &words)?;
+    let figure = figure_of(alloc, view)?;
+    put_document(out, &title, &words, &figure)
+}
+
+// Returns the picture of a violation and its table, or nothing for a pass.
+fn figure_of(alloc: Global, view: &View<'_>) -> Result<Vec<u8>, NoMemory> {
+    let mut out = Vec::new(alloc);
     if let Some(violation) = &view.explanation.violation {
-        let picture = Picture::of(*out.allocator(), view, violation)?;
-        put_figure(out, view, violation, &picture)?;
-        put_table(out, view, violation, &picture)?;
+        let picture = Picture::of(alloc, view, violation)?;
+        put_figure(&mut out, view, violation, &picture)?;
+        put_table(&mut out, view, violation, &picture)?;
     }
-    put_end(out)
+    Ok(out)
 }
 
 fn put_figure(

@@ -2,7 +2,7 @@
 use crate::field::{Trouble, in_command, in_first_line, in_names};
 use crate::hint::{Line, Place, put_binary_hint, put_hints, put_note};
 use crate::shown::{IN_OBJECT, field_of, put_shown};
-use ra_explain_text::{put, put_cut, put_end, put_head, put_start};
+use ra_explain_text::{put, put_cut, put_document, put_head};
 use ra_history_lines::number::put_numbered;
 use ra_history_lines::reply::cause_word;
 use ra_history_text::{CheckFault, Session};
@@ -88,8 +88,7 @@ impl<'a> Stop<'a> {
         put(&mut title, self.why.word())?;
         let mut words = Vec::new(alloc);
         self.put_page(&mut words)?;
-        put_start(out, &title, &words)?;
-        put_end(out)
+        put_document(out, &title, &words, b"")
     }
 
     /// Appends the explanation as a JSON object and a line feed.

@@ -1,2 +1,6 @@
 pub mod Numbers
 pub mod Json
+pub mod Rows
+pub mod Quotes
+pub mod Words
+pub mod Document

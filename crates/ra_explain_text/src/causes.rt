@@ -1,5 +1,6 @@
 //! The causes other than a query: a clock below one that is seen, and an update that is not admitted.
-use crate::layout::{put, put_count, put_head, small};
+use crate::layout::{put, put_count, small};
+use crate::notes::{Head, Note, add_note};
 use crate::quotes::{put_label, put_label_and, put_line, put_name};
 use crate::view::View;
 use ra_explain::{LabelsWith, Violation, labels_with, operation_in};
@@ -9,10 +10,10 @@ use ra_labels::{NoMemory, Op};
 /// The largest number of labels with greater stamps that are shown.
 const MOST_ABOVE: usize = 3;
 
-/// Appends the latest labels that this one sees with a stamp above its own, how its replica came to see them, and the
-/// rule that is broken.
-pub fn put_order(
-    out: &mut Vec<u8>,
+/// Adds the latest labels that this one sees with a stamp above its own, how its replica came to see them, and the rule
+/// that is broken.
+pub fn add_order(
+    notes: &mut Vec<Note>,
     view: &View<'_>,
     violation: &Violation,
 ) -> Result<(), NoMemory> {
@@ -21,25 +22,24 @@ pub fn put_order(
         if shown == MOST_ABOVE {
             break;
         }
-        put_above(out, view, violation.replica, *other)?;
+        add_above(notes, view, violation.replica, *other)?;
         shown = shown.saturating_add(1);
     }
-    let others = violation.above.len().saturating_sub(shown);
-    if others > 0 {
-        put_head(out, "")?;
-        put(out, "and ")?;
-        put_count(out, small(others), " label", " labels")?;
-        put(out, " before them\n")?;
-    }
-    put_head(out, "rule")?;
-    put(
-        out,
-        "a clock, and on a tie its replica, is above all that its label sees\n",
+    add_others(notes, violation.above.len().saturating_sub(shown))?;
+    add_note(
+        notes,
+        Head::Rule,
+        "a clock, and on a tie its replica, is above all that its label sees",
     )
 }
 
-fn put_above(out: &mut Vec<u8>, view: &View<'_>, replica: u8, other: u32) -> Result<(), NoMemory> {
-    let mut words = Vec::new(*out.allocator());
+fn add_above(
+    notes: &mut Vec<Note>,
+    view: &View<'_>,
+    replica: u8,
+    other: u32,
+) -> Result<(), NoMemory> {
+    let mut words = Vec::new(*notes.allocator());
     match view.explanation.delivery(replica, other) {
         Some(place) => {
             put(&mut words, ", which was delivered to ")?;
@@ -52,81 +52,91 @@ fn put_above(out: &mut Vec<u8>, view: &View<'_>, replica: u8, other: u32) -> Res
         }
         None => put(&mut words, ", which its replica joined with")?,
     }
-    put_head(out, "but sees")?;
-    put_label_and(out, view, other, &words)?;
-    put(out, "\n")
+    let mut text = Vec::new(*notes.allocator());
+    put_label_and(&mut text, view, other, &words)?;
+    Ok(notes.push(Note {
+        head: Head::ButSees,
+        text,
+    })?)
 }
 
-/// Appends the obstacle to the update: another insertion of its element, or an anchor or element that no label inserts
+fn add_others(notes: &mut Vec<Note>, others: usize) -> Result<(), NoMemory> {
+    if others == 0 {
+        return Ok(());
+    }
+    let mut text = Vec::new(*notes.allocator());
+    put(&mut text, "and ")?;
+    put_count(&mut text, small(others), " label", " labels")?;
+    put(&mut text, " before them")?;
+    Ok(notes.push(Note {
+        head: Head::More,
+        text,
+    })?)
+}
+
+/// Adds the obstacle to the update: another insertion of its element, or an anchor or element that no label inserts
 /// before it.
-pub fn put_update(
-    out: &mut Vec<u8>,
+pub fn add_update(
+    notes: &mut Vec<Note>,
     view: &View<'_>,
     violation: &Violation,
 ) -> Result<(), NoMemory> {
     let label = violation.fault.label;
     match operation_in(&violation.reported) {
-        Some(Op::After { element: 0, .. } | Op::RgaRemove(0)) => {
-            put_head(out, "not possible")?;
-            put(
-                out,
-                "0 is the start of the list: it is never inserted and never removed\n",
-            )
-        }
+        Some(Op::After { element: 0, .. } | Op::RgaRemove(0)) => add_note(
+            notes,
+            Head::NotPossible,
+            "0 is the start of the list: it is never inserted and never removed",
+        ),
         Some(Op::After { anchor, element }) => {
-            if put_insertions(
-                out,
-                view,
-                label,
-                *element,
-                ("duplicate", ", also inserted by "),
-            )? {
+            let words = ", also inserted by ";
+            if add_insertions(notes, view, label, *element, Head::Duplicate, words)? {
                 return Ok(());
             }
-            put_needed(out, view, label, *anchor)
+            add_needed(notes, view, label, *anchor)
         }
-        Some(Op::RgaRemove(element)) => put_needed(out, view, label, *element),
+        Some(Op::RgaRemove(element)) => add_needed(notes, view, label, *element),
         _ => Ok(()),
     }
 }
 
-fn put_needed(
-    out: &mut Vec<u8>,
+fn add_needed(
+    notes: &mut Vec<Note>,
     view: &View<'_>,
     label: u32,
     element: u32,
 ) -> Result<(), NoMemory> {
-    if put_insertions(
-        out,
-        view,
-        label,
-        element,
-        ("missing", ", which comes later in the order, by "),
-    )? {
+    let words = ", which comes later in the order, by ";
+    if add_insertions(notes, view, label, element, Head::Missing, words)? {
         return Ok(());
     }
-    put_head(out, "missing")?;
-    put_numbered(out, b"element ", element)?;
+    let mut text = Vec::new(*notes.allocator());
+    put_numbered(&mut text, b"element ", element)?;
     match view.explanation.operation(label) {
         Some(Op::After { element: own, .. }) if *own == element => {
-            put(out, ", which no other label inserts\n")
+            put(&mut text, ", which no other label inserts")?;
         }
-        _ => put(out, ", which no label inserts\n"),
+        _ => put(&mut text, ", which no label inserts")?,
     }
+    Ok(notes.push(Note {
+        head: Head::Missing,
+        text,
+    })?)
 }
 
-// Appends the other labels that insert the element, each on a line that begins with the first word, and with the others
-// before the label. Returns `true` if there are any.
-fn put_insertions(
-    out: &mut Vec<u8>,
+// Adds the other labels that insert the element, each as a note with this head, and with these words before the label.
+// Returns `true` if there are any.
+fn add_insertions(
+    notes: &mut Vec<Note>,
     view: &View<'_>,
     label: u32,
     element: u32,
-    words: (&str, &str),
+    head: Head,
+    words: &str,
 ) -> Result<bool, NoMemory> {
     let sort = LabelsWith::Element(element);
     let found = labels_with(
-        *out.allocator(),
+        *notes.allocator(),
         &view.explanation.log,
         &view.explanation.places,
         sort,
@@ -134,11 +144,11 @@ fn put_insertions(
     let mut any = false;
     for other in found {
         if other != label {
-            put_head(out, words.0)?;
-            put_numbered(out, b"element ", element)?;
-            put(out, words.1)?;
-            put_label(out, view, other)?;
-            put(out, "\n")?;
+            let mut text = Vec::new(*notes.allocator());
+            put_numbered(&mut text, b"element ", element)?;
+            put(&mut text, words)?;
+            put_label(&mut text, view, other)?;
+            notes.push(Note { head, text })?;
             any = true;
         }
     }

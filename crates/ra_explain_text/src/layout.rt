@@ -1,6 +1,7 @@
 //! Words, numbers and lines.
-ghost use Rattle.std.specs.Prelude.{◌≡◌, ◌++◌, min, OnOk};
+ghost use Rattle.std.specs.Prelude.{◌≡◌, ◌==◌, ◌++◌, min, OnOk, decimal, take, if◌then◌else◌};
 ghost use Rattle.ra_explain_text.specs.Numbers.{size_word};
+ghost use Rattle.ra_explain_text.specs.Rows.{cut_line, padded, row};
 
 use ra_history_lines::number::put_number;
 use ra_labels::NoMemory;
@@ -9,6 +10,9 @@ use ra_labels::NoMemory;
 const WIDEST: usize = 100;
 
 const CUT: usize = 98;
+
+/// As many spaces as there are bytes before the column at which the facts of a page begin.
+const SPACES: &[u8] = b"                ";
 
 /// Appends the words.
 ///
@@ -22,17 +26,38 @@ pub fn put(out: &mut Vec<u8>, words: &str) -> Result<(), NoMemory>
     Ok(out.extend_from_slice(words.as_bytes())?)
 }
 
-/// Appends the words, and spaces up to the column at which the facts of a page begin.
-pub fn put_head(out: &mut Vec<u8>, words: &str) -> Result<(), NoMemory> {
-    put(out, words)?;
-    for _ in words.len()..16 {
-        out.push(b' ')?;
-    }
-    Ok(())
+/// Appends the word, and spaces up to the column at which the facts of a page begin.
+pub fn put_head(out: &mut Vec<u8>, word: &str) -> Result<(), NoMemory>
+    // After success, the word is appended, filled with spaces to 16 bytes.
+    ensures { OnOk result (out.new.items ≡ out.old.items ++ padded word.now) }
+{
+    put(out, word)?;
+    let filling = SPACES.get(word.len()..).unwrap_or(b"");
+    Ok(out.extend_from_slice(filling)?)
+}
+
+/// Appends a line with this word at its head. Of a line longer than 100 bytes the first 98 are appended, and two dots.
+///
+/// # Errors
+///
+/// `NoMemory` if an allocation fails.
+pub fn put_row(out: &mut Vec<u8>, word: &str, text: &[u8]) -> Result<(), NoMemory>
+    // After success, the line with this head and this text is appended.
+    ensures { OnOk result (out.new.items ≡ out.old.items ++ row word.now text.now) }
+{
+    let mut line = Vec::new(*out.allocator());
+    put_head(&mut line, word)?;
+    line.extend_from_slice(text)?;
+    put_cut_line(out, &line)?;
+    Ok(out.push(b'\n')?)
 }
 
 /// Appends the number, and then the word for one or for several.
-pub fn put_count(out: &mut Vec<u8>, count: u32, one: &str, several: &str) -> Result<(), NoMemory> {
+pub fn put_count(out: &mut Vec<u8>, count: u32, one: &str, several: &str) -> Result<(), NoMemory>
+    // After success, the decimal digits and the word are appended.
+    ensures { OnOk result (out.new.items
+        ≡ out.old.items ++ (decimal count ++ (if count == 1 then one.now else several.now))) }
+{
     put_number(out, count)?;
     put(out, if count == 1 { one } else { several })
 }
@@ -74,12 +99,27 @@ pub fn put_cut(out: &mut Vec<u8>, lines: &[u8]) -> Result<(), NoMemory> {
     put_cut_line(out, lines.get(start..).unwrap_or(b""))
 }
 
-fn put_cut_line(out: &mut Vec<u8>, line: &[u8]) -> Result<(), NoMemory> {
-    match line.get(..CUT) {
-        Some(front) if line.len() > WIDEST => {
-            out.extend_from_slice(front)?;
-            put(out, "..")
-        }
-        _ => Ok(out.extend_from_slice(line)?),
+/// Appends the line. Of a line longer than 100 bytes the first 98 are appended, and two dots.
+///
+/// # Errors
+///
+/// `NoMemory` if an allocation fails.
+pub fn put_cut_line(out: &mut Vec<u8>, line: &[u8]) -> Result<(), NoMemory>
+    // After success, the line is appended, or its first 98 bytes and two dots if it is longer than 100 bytes.
+    ensures { OnOk result (out.new.items ≡ out.old.items ++ cut_line line.now) }
+{
+    if line.len() > WIDEST {
+        out.extend_from_slice(front_of(line, CUT))?;
+        put(out, "..")
+    } else {
+        Ok(out.extend_from_slice(line)?)
     }
+}
+
+/// Returns the first bytes of the line, at most the given number.
+pub fn front_of(line: &[u8], most: usize) -> &[u8]
+    // The result is the first bytes of the line, at most the given number.
+    ensures { result.now ≡ take most line.now }
+{
+    line.get(..most).unwrap_or(line)
 }

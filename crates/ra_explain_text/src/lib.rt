@@ -1,8 +1,10 @@
 //! Renderers of an explanation: words, a JSON object, and the sequence that linearizes the history.
 //!
 //! The contract for the layers above: each call returns, and the error `NoMemory` means that an allocation failed.
-//! `put_json` appends exactly the object of the explanation (`specs/Json`). No clause states what `put_words` and
-//! `put_sequence` append; stored pages and the model test that (`tests/explanations`).
+//! `put_json` appends exactly the object of the explanation (`specs/Json`). `put_words` appends its text
+//! (`specs/Words`): the sentence, the reported and the expected command and the remedies follow from the explanation.
+//! No clause states what the notes between them say, or what `put_sequence` appends; stored pages and the model test
+//! that (`tests/explanations`).
 #![tactic(auto)]
 
 mod causes;
@@ -10,6 +12,7 @@ mod document;
 mod elements;
 mod json;
 mod layout;
+mod notes;
 mod page;
 mod pass;
 mod query;
@@ -21,7 +24,7 @@ mod shares;
 mod unmet;
 mod view;
 
-pub use document::{put_end, put_escaped, put_start};
+pub use document::{put_document, put_escaped};
 pub use json::put_json;
 pub use layout::{put, put_count, put_cut, put_head, put_size, small};
 pub use page::put_words;

@@ -1,62 +1,192 @@
 //! The explanation as text.
-use crate::causes::{put_order, put_update};
-use crate::layout::{put, put_cut, put_head};
-use crate::pass::put_pass;
-use crate::query::put_query;
+ghost use Rattle.std.specs.Prelude.{◌≡◌, ℕ, ◌++◌, List, OnOk};
+ghost use Rattle.ra_explain_text.specs.Rows.{notes_bytes};
+ghost use Rattle.ra_explain_text.specs.Words as words;
+ghost use Rattle.ra_explain_text.specs.Words.{IsText, words_for};
+
+use crate::causes::{add_order, add_update};
+use crate::layout::{put, put_count, put_cut_line, put_row};
+use crate::notes::{Note, put_notes};
+use crate::pass::add_lacking;
+use crate::query::add_query;
 use crate::quotes::{put_act, put_line};
-use crate::rejected::put_refused;
+use crate::rejected::add_rejections;
 use crate::remedies::put_remedies;
-use crate::shares::put_shares;
+use crate::shares::add_shares;
 use crate::view::View;
 use ra_explain::Violation;
+use ra_history_lines::Names;
 use ra_history_lines::number::put_numbered;
-use ra_labels::{Cause, NoMemory};
+use ra_labels::{Cause, Command, NoMemory};
 
 /// Appends the explanation as text.
-pub fn put_words(out: &mut Vec<u8>, view: &View<'_>) -> Result<(), NoMemory> {
-    let mut words = Vec::new(*out.allocator());
+///
+/// # Errors
+///
+/// `NoMemory` if an allocation fails.
+pub fn put_words(out: &mut Vec<u8>, view: &View<'_>) -> Result<(), NoMemory>
+    // After success, the text of the explanation is appended: its sentence, the reported and the expected command and
+    // the remedies, each as the explanation has it, and notes that begin with other words.
+    ensures { OnOk result ((bytes : List ℕ) × (out.new.items ≡ out.old.items ++ bytes)
+        × IsText view.now.names.now view.now.explanation.now bytes) }
+{
+    let alloc = *out.allocator();
+    let mut notes = Vec::new(alloc);
+    add_reasons(&mut notes, view)?;
+    let mut more = Vec::new(alloc);
+    add_rejections(&mut more, view)?;
+    put_text(out, view, &notes, &more)
+}
+
+// Appends the text with these notes before and behind the remedies.
+fn put_text(
+    out: &mut Vec<u8>,
+    view: &View<'_>,
+    notes: &[Note],
+    more: &[Note],
+) -> Result<(), NoMemory>
+    ensures { OnOk result (out.new.items ≡ out.old.items ++ words_for view.now.names.now view.now.explanation.now
+        notes.now more.now view.now.explanation.now.violation) }
+{
     match &view.explanation.violation {
-        Some(violation) => {
-            put_violation(&mut words, view, violation)?;
-            put_refused(&mut words, view)?;
-        }
-        None => put_pass(&mut words, view)?,
+        Some(violation) => put_violation(out, view, violation, notes, more),
+        None => put_pass(out, view.explanation.report.labels, notes, more),
     }
-    put_cut(out, &words)
 }
 
 fn put_violation(
     out: &mut Vec<u8>,
     view: &View<'_>,
     violation: &Violation,
-) -> Result<(), NoMemory> {
-    put_sentence(out, view, violation)?;
-    match violation.fault.cause {
-        Cause::Query => put_query(out, view, violation)?,
-        Cause::Order => put_order(out, view, violation)?,
-        Cause::Update => put_update(out, view, violation)?,
-    }
-    put_shares(out, view, violation)?;
-    put_remedies(out, view, violation)
+    notes: &[Note],
+    more: &[Note],
+) -> Result<(), NoMemory>
+    ensures { OnOk result (out.new.items ≡ out.old.items ++ words.violation_text view.now.names.now
+        view.now.explanation.now notes.now more.now violation.now) }
+{
+    put_sentence(out, violation)?;
+    put_reported(out, view.names, violation)?;
+    put_expected(out, view.names, violation.fault.cause, &violation.expected)?;
+    put_notes(out, notes)?;
+    put_remedies(out, view, violation)?;
+    put_notes(out, more)
 }
 
-// Appends the line, the label, the report, and the reason of the violation.
-fn put_sentence(out: &mut Vec<u8>, view: &View<'_>, violation: &Violation) -> Result<(), NoMemory> {
+// Appends the line, the label, and the reason of the violation.
+fn put_sentence(out: &mut Vec<u8>, violation: &Violation) -> Result<(), NoMemory>
+    ensures { OnOk result (out.new.items ≡ out.old.items ++ words.sentence violation.now) }
+{
+    let mut line = Vec::new(*out.allocator());
+    put_sentence_line(&mut line, violation)?;
     put(out, "\n")?;
-    put_line(out, violation.place)?;
-    put_numbered(out, b" is a violation (label ", violation.fault.label)?;
-    put(out, "): ")?;
-    put(out, reason(violation.fault.cause))?;
-    put(out, "\n\n")?;
-    put_head(out, "reported")?;
-    put_act(out, view, &violation.reported)?;
-    put(out, "\n")
+    put_cut_line(out, &line)?;
+    put(out, "\n\n")
 }
 
-fn reason(cause: Cause) -> &'static str {
+fn put_sentence_line(line: &mut Vec<u8>, violation: &Violation) -> Result<(), NoMemory>
+    ensures { OnOk result (line.new.items ≡ line.old.items ++ words.sentence_line violation.now) }
+{
+    put_line(line, violation.place)?;
+    put_numbered(line, b" is a violation (label ", violation.fault.label)?;
+    put(line, "): ")?;
+    put(line, reason(violation.fault.cause))
+}
+
+fn reason(cause: Cause) -> &'static str
+    ensures { result.now ≡ words.reason_words cause }
+{
     match cause {
         Cause::Query => "its result does not follow from the updates that it sees.",
         Cause::Order => "its clock is not greater than each clock that it sees.",
         Cause::Update => "it cannot be applied at its position in the order.",
     }
+}
+
+fn put_reported(out: &mut Vec<u8>, names: &Names, violation: &Violation) -> Result<(), NoMemory>
+    ensures { OnOk result (out.new.items ≡ out.old.items ++ words.reported_row names.now violation.now) }
+{
+    let mut text = Vec::new(*out.allocator());
+    put_act(&mut text, names, &violation.reported)?;
+    put_row(out, "reported", &text)
+}
+
+// Appends the expected result of a query, or that none is possible.
+fn put_expected(
+    out: &mut Vec<u8>,
+    names: &Names,
+    cause: Cause,
+    expected: &Option<Command>,
+) -> Result<(), NoMemory>
+    ensures { OnOk result (out.new.items ≡ out.old.items ++ words.expected_row names.now cause expected.now) }
+{
+    if cause != Cause::Query {
+        return Ok(());
+    }
+    let mut text = Vec::new(*out.allocator());
+    put_expected_words(&mut text, names, expected)?;
+    put_row(out, "expected", &text)
+}
+
+fn put_expected_words(
+    text: &mut Vec<u8>,
+    names: &Names,
+    expected: &Option<Command>,
+) -> Result<(), NoMemory>
+    ensures { OnOk result (text.new.items ≡ text.old.items ++ words.expected_words names.now expected.now) }
+{
+    match expected {
+        Some(command) => put_act(text, names, command),
+        None => put(
+            text,
+            "no result: the updates that it sees cannot be applied by themselves",
+        ),
+    }
+}
+
+// Appends that all labels hold.
+fn put_pass(out: &mut Vec<u8>, labels: u32, notes: &[Note], more: &[Note]) -> Result<(), NoMemory>
+    ensures { OnOk result (out.new.items
+        ≡ out.old.items ++ (words.pass_sentence labels ++ (notes_bytes notes.now ++ notes_bytes more.now))) }
+{
+    put_pass_sentence(out, labels)?;
+    put_notes(out, notes)?;
+    put_notes(out, more)
+}
+
+fn put_pass_sentence(out: &mut Vec<u8>, labels: u32) -> Result<(), NoMemory>
+    ensures { OnOk result (out.new.items ≡ out.old.items ++ words.pass_sentence labels) }
+{
+    put(out, "\n")?;
+    put_pass_line(out, labels)?;
+    put(out, "\n\n")
+}
+
+fn put_pass_line(out: &mut Vec<u8>, labels: u32) -> Result<(), NoMemory>
+    ensures { OnOk result (out.new.items ≡ out.old.items ++ words.pass_line labels) }
+{
+    if labels == 0 {
+        put(out, "no operation was accepted, so nothing was checked.")
+    } else {
+        put_holding(out, labels)
+    }
+}
+
+fn put_holding(out: &mut Vec<u8>, labels: u32) -> Result<(), NoMemory>
+    ensures { OnOk result (out.new.items ≡ out.old.items ++ words.holding_words labels) }
+{
+    put_count(out, labels, " label holds", " labels hold")?;
+    put(out, ": one order explains all results.")
+}
+
+// Adds the reasons of a violation, or what a pass leaves open.
+fn add_reasons(notes: &mut Vec<Note>, view: &View<'_>) -> Result<(), NoMemory> {
+    let Some(violation) = &view.explanation.violation else {
+        return add_lacking(notes, view);
+    };
+    match violation.fault.cause {
+        Cause::Query => add_query(notes, view, violation)?,
+        Cause::Order => add_order(notes, view, violation)?,
+        Cause::Update => add_update(notes, view, violation)?,
+    }
+    add_shares(notes, view, violation)
 }

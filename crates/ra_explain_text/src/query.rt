@@ -1,8 +1,8 @@
-//! The reported result and the expected one.
+//! The difference of the reported result from the expected one.
 use crate::elements::put_elements;
-use crate::layout::{put, put_head, put_size};
-use crate::quotes::put_act;
-use crate::unmet::put_unmet;
+use crate::layout::{put, put_size};
+use crate::notes::{Head, Note};
+use crate::unmet::add_unmet;
 use crate::view::View;
 use ra_explain::{Difference, Violation};
 use ra_history_lines::number::put_number;
@@ -13,26 +13,23 @@ const FAR: usize = 8;
 
 const BEFORE: usize = 3;
 
-/// Appends the expected result, and the first difference between the two; or, if no result is possible, the obstacle.
-pub fn put_query(
-    out: &mut Vec<u8>,
+/// Adds the first difference between the reported and the expected result; or, if no result is possible, the obstacle.
+pub fn add_query(
+    notes: &mut Vec<Note>,
     view: &View<'_>,
     violation: &Violation,
 ) -> Result<(), NoMemory> {
-    let Some(expected) = &violation.expected else {
-        return put_unmet(out, view, violation);
-    };
-    put_head(out, "expected")?;
-    put_act(out, view, expected)?;
-    put(out, "\n")?;
-    put_difference(out, violation)
+    match &violation.expected {
+        Some(_) => add_difference(notes, violation),
+        None => add_unmet(notes, view, violation),
+    }
 }
 
 // Two list reads are compared by their first difference, and two sets by the missing and the unexpected elements.
-fn put_difference(out: &mut Vec<u8>, violation: &Violation) -> Result<(), NoMemory> {
+fn add_difference(notes: &mut Vec<Note>, violation: &Violation) -> Result<(), NoMemory> {
     match &violation.difference {
-        Some(Difference::At(place)) => put_first(
-            out,
+        Some(Difference::At(place)) => add_first(
+            notes,
             list_in(Some(&violation.reported)),
             list_in(violation.expected.as_ref()),
             *place,
@@ -43,8 +40,8 @@ fn put_difference(out: &mut Vec<u8>, violation: &Violation) -> Result<(), NoMemo
                 unexpected,
             },
         ) => {
-            put_list(out, "missing", missing)?;
-            put_list(out, "unexpected", unexpected)
+            add_list(notes, Head::Missing, missing)?;
+            add_list(notes, Head::Unexpected, unexpected)
         }
         None => Ok(()),
     }
@@ -64,51 +61,59 @@ fn list_in(command: Option<&Command>) -> &[u32] {
     list.as_slice()
 }
 
-// Appends the first difference of two lists, counted from 1.
-fn put_first(
-    out: &mut Vec<u8>,
+// Adds the first difference of two lists, counted from 1.
+fn add_first(
+    notes: &mut Vec<Note>,
     reported: &[u32],
     expected: &[u32],
     place: usize,
 ) -> Result<(), NoMemory> {
-    put_head(out, "differs")?;
-    put(out, "at position ")?;
-    put_size(out, place.saturating_add(1))?;
-    put(out, ": ")?;
-    put_at(out, "got ", reported.get(place).copied())?;
-    put_at(out, ", expected ", expected.get(place).copied())?;
-    put(out, "\n")?;
+    let mut text = Vec::new(*notes.allocator());
+    put(&mut text, "at position ")?;
+    put_size(&mut text, place.saturating_add(1))?;
+    put(&mut text, ": ")?;
+    put_at(&mut text, "got ", reported.get(place).copied())?;
+    put_at(&mut text, ", expected ", expected.get(place).copied())?;
+    notes.push(Note {
+        head: Head::Differs,
+        text,
+    })?;
     if place < FAR {
         return Ok(());
     }
-    put_round(out, "got there", reported, place)?;
-    put_round(out, "expected there", expected, place)
+    add_round(notes, Head::GotThere, reported, place)?;
+    add_round(notes, Head::ExpectedThere, expected, place)
 }
 
-// Appends the elements of a long list around this index.
-fn put_round(out: &mut Vec<u8>, words: &str, list: &[u32], place: usize) -> Result<(), NoMemory> {
-    put_head(out, words)?;
-    put(out, ".. ")?;
+// Adds the elements of a long list around this index.
+fn add_round(
+    notes: &mut Vec<Note>,
+    head: Head,
+    list: &[u32],
+    place: usize,
+) -> Result<(), NoMemory> {
+    let mut text = Vec::new(*notes.allocator());
+    put(&mut text, ".. ")?;
     match list.get(place.saturating_sub(BEFORE)..) {
-        Some(part) => put_elements(out, part)?,
+        Some(part) => put_elements(&mut text, part)?,
         None => {}
     }
-    put(out, "\n")
+    Ok(notes.push(Note { head, text })?)
 }
 
-fn put_at(out: &mut Vec<u8>, words: &str, element: Option<u32>) -> Result<(), NoMemory> {
-    put(out, words)?;
+fn put_at(text: &mut Vec<u8>, words: &str, element: Option<u32>) -> Result<(), NoMemory> {
+    put(text, words)?;
     match element {
-        Some(element) => put_number(out, element),
-        None => put(out, "the end of the list"),
+        Some(element) => put_number(text, element),
+        None => put(text, "the end of the list"),
     }
 }
 
-fn put_list(out: &mut Vec<u8>, words: &str, elements: &[u32]) -> Result<(), NoMemory> {
+fn add_list(notes: &mut Vec<Note>, head: Head, elements: &[u32]) -> Result<(), NoMemory> {
     if elements.is_empty() {
         return Ok(());
     }
-    put_head(out, words)?;
-    put_elements(out, elements)?;
-    put(out, "\n")
+    let mut text = Vec::new(*notes.allocator());
+    put_elements(&mut text, elements)?;
+    Ok(notes.push(Note { head, text })?)
 }

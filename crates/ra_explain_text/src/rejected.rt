@@ -1,60 +1,71 @@
 //! The rejected lines of a history, each with its reason.
-use crate::layout::{put, put_count, put_head, small};
+use crate::layout::{put, put_count, small};
+use crate::notes::{Head, Note};
 use crate::quotes::{put_act, put_label, put_label_and, put_line};
 use crate::view::View;
 use ra_explain::{LabelsWith, labels_with};
 use ra_history_lines::reply::put_reply;
 use ra_labels::{Command, Kind, NoMemory, Op, Refusal, Reply, Stamp};
 
-/// Appends the first rejected lines, each with its reason, and the number of the others.
-pub fn put_refused(out: &mut Vec<u8>, view: &View<'_>) -> Result<(), NoMemory> {
+/// Adds the first rejected lines, each with its reason, and the number of the others.
+pub fn add_rejections(notes: &mut Vec<Note>, view: &View<'_>) -> Result<(), NoMemory> {
     let refused = view.explanation.report.refused;
     for place in &view.explanation.rejected {
-        put_rejected(out, view, *place)?;
+        add_rejected(notes, view, *place)?;
     }
     let others = refused.saturating_sub(small(view.explanation.rejected.len()));
-    if others > 0 {
-        put_head(out, "rejected")?;
-        put_count(out, others, " more line\n", " more lines\n")?;
+    if others == 0 {
+        return Ok(());
     }
-    Ok(())
+    let mut text = Vec::new(*notes.allocator());
+    put_count(&mut text, others, " more line", " more lines")?;
+    Ok(notes.push(Note {
+        head: Head::Rejected,
+        text,
+    })?)
 }
 
-fn put_rejected(out: &mut Vec<u8>, view: &View<'_>, place: u32) -> Result<(), NoMemory> {
+fn add_rejected(notes: &mut Vec<Note>, view: &View<'_>, place: u32) -> Result<(), NoMemory> {
     let Some(entry) = view.explanation.entry(place) else {
         return Ok(());
     };
     match entry.reply {
-        Reply::Refused(why) => put_refusal(out, view, place, &entry.command, why),
+        Reply::Refused(why) => add_refusal(notes, view, place, &entry.command, why),
         Reply::Ok(_) | Reply::Got(_) | Reply::Joined(_) | Reply::Yes(_) | Reply::No { .. } => Ok(
             (),
         ),
     }
 }
 
-// Appends a rejected line, and the reason on a line of its own. The name of an unknown replica is not stored, so a line
+// Adds a rejected line, and the reason as a note of its own. The name of an unknown replica is not stored, so a line
 // with one is shown by its number alone.
-fn put_refusal(
-    out: &mut Vec<u8>,
+fn add_refusal(
+    notes: &mut Vec<Note>,
     view: &View<'_>,
     place: u32,
     command: &Command,
     why: Refusal,
 ) -> Result<(), NoMemory> {
-    put_head(out, "rejected")?;
-    put_line(out, place)?;
+    let mut text = Vec::new(*notes.allocator());
+    put_line(&mut text, place)?;
     match why {
         Refusal::UnknownReplica | Refusal::TooManyReplicas => {}
         _ => {
-            put(out, ": ")?;
-            put_act(out, view, command)?;
+            put(&mut text, ": ")?;
+            put_act(&mut text, view.names, command)?;
         }
     }
-    put(out, "\n")?;
-    put_head(out, "")?;
-    put_word(out, why)?;
-    put_reason(out, view, command, why)?;
-    put(out, "\n")
+    notes.push(Note {
+        head: Head::Rejected,
+        text,
+    })?;
+    let mut text = Vec::new(*notes.allocator());
+    put_word(&mut text, why)?;
+    put_reason(&mut text, view, command, why)?;
+    Ok(notes.push(Note {
+        head: Head::More,
+        text,
+    })?)
 }
 
 // Appends the word of the rejection, as in replies.

@@ -1,0 +1,49 @@
+-- The rows of a page.
+use Rattle.std.specs.Prelude.{ℕ, ◌==◌, nat_lt, List, [], ◌∷◌, ◌++◌, length, take, drop, codes, if◌then◌else◌}
+use Rattle.ra_explain_text.specs.declared.notes.Head.{Head}
+use Rattle.ra_explain_text.specs.declared.notes.Head.TheVariants as head
+use Rattle.ra_explain_text.specs.declared.notes.Note.{Note}
+
+-- the word, and spaces up to the column at which the facts of a page begin
+abbrev pub padded : List ℕ → List ℕ
+padded word = word ++ drop (length word) (codes "                ")
+
+-- the first 98 bytes and two dots of a line longer than 100 bytes
+abbrev pub cut_line : List ℕ → List ℕ
+cut_line line = if nat_lt 100 (length line) then take 98 line ++ codes ".." else line
+
+-- a line with this word at its head
+abbrev pub row : List ℕ → List ℕ → List ℕ
+row word text = cut_line (padded word ++ text) ++ 10 ∷ []
+
+-- ---- notes
+
+abbrev pub head_word : Head → List ℕ
+head_word head.More = []
+head_word head.Differs = codes "differs"
+head_word head.GotThere = codes "got there"
+head_word head.ExpectedThere = codes "expected there"
+head_word head.Missing = codes "missing"
+head_word head.Unexpected = codes "unexpected"
+head_word head.ItSees = codes "it sees"
+head_word head.ButNot = codes "but not"
+head_word head.ButSees = codes "but sees"
+head_word head.Rule = codes "rule"
+head_word head.NotPossible = codes "not possible"
+head_word head.Duplicate = codes "duplicate"
+head_word head.Sees = codes "sees"
+head_word head.NotDelivered = codes "not delivered"
+head_word head.AtTheEnd = codes "at the end"
+head_word head.Rejected = codes "rejected"
+
+-- the bytes before the first line feed (byte 10)
+abbrev pub first_line : List ℕ → List ℕ
+first_line [] = []
+first_line (byte ∷ bytes) = if byte == 10 then [] else byte ∷ first_line bytes
+
+abbrev pub note_bytes : Note → List ℕ
+note_bytes note = row (head_word note.head) (first_line note.text.items)
+
+abbrev pub notes_bytes : List Note → List ℕ
+notes_bytes [] = []
+notes_bytes (note ∷ notes) = note_bytes note ++ notes_bytes notes
