@@ -1,8 +1,17 @@
 -- A program that explains a text: what it reads and writes, and how it ends.
-use Rattle.std.specs.Prelude.{◌≡◌, ◌⊎◌, ℕ, List, ◌++◌, Option, IfSome, Result, Ok, Err, ⊤}
+use Rattle.std.specs.Prelude.{◌≡◌, ◌⊎◌, ℕ, List, [], ◌++◌, Option, Some, None, IfSome, Result, Ok, Err, ⊤}
 use Rattle.std.specs.Io.KnownBytes.{IsAtEnd, Appends}
 use Rattle.ra_history_lines.specs.Replies.{end_line}
 use Rattle.ra_monitor.specs.declared.report.Report.{Report}
+use Rattle.ra_monitor.specs.declared.setup.Setup.{Setup}
+use Rattle.ra_monitor.specs.Monitor.{Monitor, MonitorEntry}
+use Rattle.ra_explain.specs.declared.explanation.Explanation.{Explanation}
+use Rattle.ra_explain.specs.declared.explanation.Purpose.{Purpose}
+use Rattle.ra_explain.specs.declared.explanation.Purpose.TheVariants.{Drawing, Object, Text}
+use Rattle.ra_explain.specs.Explains.{Explains}
+use Rattle.ra_explain_text.specs.Document.{ContainsText}
+use Rattle.ra_explain_text.specs.Json.{object_of}
+use Rattle.ra_explain_text.specs.Words.{IsText}
 use Rattle.ra_history_text.specs.declared.fault.CheckFault.{CheckFault}
 use Rattle.ra_history_text.specs.declared.fault.CheckFault.TheVariants.{Endless, NoMemory, Write}
 use Rattle.ra_history_text.specs.declared.outcome.Outcome.{Outcome}
@@ -11,27 +20,58 @@ use Rattle.ra_history_text.specs.Faults.{check_fault_words}
 use Rattle.ra_history_text.specs.Output.{Reports}
 use Rattle.ra_history_text.specs.Run.{StopsCheck, HasGiven}
 use Rattle.ra_history_text.specs.Written.{StopsLine}
-use Rattle.ra_history_text.specs.Text.{Regular, ending_of, said_by}
+use Rattle.ra_history_text.specs.Sessions.{IsToldBy, names_said}
+use Rattle.ra_history_text.specs.Text.{Regular, Said, ending_of, said_by}
 use Rattle.ra_cli_common.specs.declared.ending.Ending.{Ending}
 use Rattle.ra_cli_common.specs.Check.{status_of_outcome}
 use Rattle.ra_cli_common.specs.Endings.{EndsWithLine, StopsProgram}
 use Rattle.ra_explain_cli.specs.declared.asked.Form.{Form}
 use Rattle.ra_explain_cli.specs.declared.asked.Form.TheVariants.{Page, Json, Svg, Html, Sequence}
 
--- Holds if the page is of another form or, as plain text, begins with the end line of a check with this report.
-abbrev pub IsPage : Form → Report → List ℕ → Type 0
-IsPage Page report page = (body : List ℕ) × (page ≡ end_line report.labels report.fault ++ body)
-IsPage Json report page = ⊤
-IsPage Svg report page = ⊤
-IsPage Html report page = ⊤
-IsPage Sequence report page = ⊤
+-- the purpose of the explanation that a page shows; none for the sequence
+abbrev pub purpose_for : Form → Option Purpose
+purpose_for Page = Some Text
+purpose_for Html = Some Text
+purpose_for Json = Some Object
+purpose_for Svg = Some Drawing
+purpose_for Sequence = None
+
+-- Holds if the explanation was appended in this form: the text with a picture behind it, the object, or a document that
+-- contains the text. A drawing is not described.
+abbrev pub PutsExplanation : Form → Explanation → List (List ℕ) → List ℕ → List ℕ → Type 0
+PutsExplanation Page e names old new = (words picture : List ℕ) × IsText names e words × (new ≡ old ++ words ++ picture)
+PutsExplanation Json e names old new = new ≡ old ++ object_of names e
+PutsExplanation Html e names old new = (words : List ℕ) × IsText names e words × ContainsText old new words
+PutsExplanation Svg e names old new = ⊤
+PutsExplanation Sequence e names old new = ⊤
+
+-- holds if the body of a page shows an explanation of this log for this purpose; without a purpose it is a sequence,
+-- which is not described
+abbrev pub IsBodyFor : Option Purpose → Form → Setup → List MonitorEntry → List (List ℕ) → List ℕ → Type 0
+IsBodyFor None form setup log names body = ⊤
+IsBodyFor (Some purpose) form setup log names body =
+    (e : Explanation) × Explains setup log purpose e × PutsExplanation form e names [] body
+
+abbrev pub IsBody : Form → Setup → List MonitorEntry → List (List ℕ) → List ℕ → Type 0
+IsBody form setup log names body = IsBodyFor (purpose_for form) form setup log names body
+
+-- the end line of a check, before the body of a plain page
+abbrev pub head_for : Form → Report → List ℕ
+head_for Page report = end_line report.labels report.fault
+head_for form report = []
+
+-- Holds if the page shows the explanation of these lines; a plain page begins with the end line of a check with this
+-- report.
+abbrev pub IsPage : Form → Said → Report → List ℕ → Type 0
+IsPage form said report page = (body : List ℕ) × (monitor : Monitor) × IsToldBy said monitor
+    × IsBody form monitor.setup monitor.log (names_said said) body × (page ≡ head_for form report ++ body)
 
 -- Holds if the allocation of the page failed, nothing is written, and that is reported; or the page is written, and the
 -- status is that of the check; or a part of it is written, and that is reported.
-abbrev pub EndsExplained : Form → Outcome → Ending → (old new err_old err_new : Option (List ℕ)) → Type 0
-EndsExplained form outcome ending old new err_old err_new =
+abbrev pub EndsExplained : Form → Said → Outcome → Ending → (old new err_old err_new : Option (List ℕ)) → Type 0
+EndsExplained form said outcome ending old new err_old err_new =
     ((new ≡ old) × StopsProgram ending err_old err_new (check_fault_words NoMemory))
-    ⊎ ((page : List ℕ) × IsPage form outcome.report page
+    ⊎ ((page : List ℕ) × IsPage form said outcome.report page
     × EndsWithLine page (status_of_outcome outcome) ending old new err_old err_new)
 
 -- Holds if the fault is reported and text about it is written; or a part of this is written, and that is reported.
@@ -40,9 +80,11 @@ EndsStopped fault ending old new err_old err_new = (words : List ℕ)
     × ((Appends old new words × StopsProgram ending err_old err_new (check_fault_words fault))
     ⊎ (StopsLine words old new Write × StopsProgram ending err_old err_new (check_fault_words Write)))
 
--- holds if the text has its regular end, and this is the report of its content
-abbrev pub IsAnswered : List ℕ → Outcome → Type 0
-IsAnswered text outcome = (ending_of text ≡ Regular) × Reports (said_by text) outcome.report
+-- holds if the text has its regular end, these are its lines, and this is the report of their content
+pub record IsAnswered (text : List ℕ) (said : Said) (outcome : Outcome) : Type 0 where
+  pub ends : ending_of text ≡ Regular
+  pub lines : said ≡ said_by text
+  pub reported : Reports (said_by text) outcome.report
 
 -- holds if a check of the text can stop with this fault while the reader has these bytes left
 abbrev pub Stops : List ℕ → Option (List ℕ) → CheckFault → Type 0
@@ -52,9 +94,9 @@ Stops text left fault = (old : Option (List ℕ)) × (new : Option (List ℕ)) �
 -- reported.
 abbrev pub EndsExplanation : Form → Result Outcome CheckFault → Ending →
     (text left old new err_old err_new : Option (List ℕ)) → Type 0
-EndsExplanation form (Ok outcome) ending text left old new err_old err_new =
-    IsAtEnd left × IfSome text (λ bytes. IsAnswered bytes outcome)
-    × EndsExplained form outcome ending old new err_old err_new
+EndsExplanation form (Ok outcome) ending text left old new err_old err_new = (said : Said)
+    × IsAtEnd left × IfSome text (λ bytes. IsAnswered bytes said outcome)
+    × EndsExplained form said outcome ending old new err_old err_new
 EndsExplanation form (Err fault) ending text left old new err_old err_new =
     EndsStopped fault ending old new err_old err_new × IfSome text (λ bytes. Stops bytes left fault)
     × (fault ≡ Endless → HasGiven text left MOST_READS)

@@ -1,6 +1,9 @@
 //! The explanation of a text from a reader.
-ghost use Rattle.std.specs.Prelude.{◌≡◌, ◌≢◌, IfOk, Ok};
-ghost use Rattle.ra_explain_cli.specs.Explained.{ExplainsText, EndsExplained, EndsStopped, IsPage};
+ghost use Rattle.std.specs.Prelude.{◌≡◌, ◌≢◌, ◌++◌, IfOk, Ok, OnOk, Some};
+ghost use Rattle.ra_monitor.specs.Monitor as model;
+ghost use Rattle.ra_history_text.specs.Output.{Reports};
+ghost use Rattle.ra_history_text.specs.Sessions.{IsToldBy, names_said};
+ghost use Rattle.ra_explain_cli.specs.Explained.{ExplainsText, EndsExplained, EndsStopped, IsBody, IsBodyFor, IsPage, PutsExplanation, head_for, purpose_for};
 
 use crate::asked::Form;
 use ra_cli_common::{Ending, stop};
@@ -20,8 +23,8 @@ use std::io::{Read, Write};
 /// Explains the text that the reader provides on `out`, and writes the line of an error on `err`. The status is that of
 /// a check of the text, or 2 if the page cannot be made or written. A plain page begins with the check's own end line.
 ///
-/// For a text with a fault, page, object and document show the line and the field. No clause states that, or more of a
-/// page than its end line.
+/// For a text with a fault, page, object and document show the line and the field. No clause states that, nor the
+/// picture, the drawing and the sequence.
 pub fn explain<R: Read, W: Write, E: Write>(
     alloc: Global,
     form: Form,
@@ -29,8 +32,9 @@ pub fn explain<R: Read, W: Write, E: Write>(
     out: &mut W,
     err: &mut E,
 ) -> Ending
-    // If the check of the text succeeds, all of it is read, and a page is written with the check's status; in plain
-    // form it begins with the check's end line. Otherwise, and after a failed write or allocation, the status is 2.
+    // If the check of the text succeeds, all of it is read, and a page is written with the check's status. The page
+    // shows the explanation of the text's history: as the object, or as the text, which in plain form follows the
+    // check's end line. Otherwise, and after a failed write or allocation, the status is 2.
     ensures explained { ExplainsText form result (R.remaining reader.old) (R.remaining reader.new)
         (W.contents out.old) (W.contents out.new) (E.contents err.old) (E.contents err.new) }
     // Unless the status is 2, nothing is written on `err`.
@@ -58,7 +62,8 @@ fn end_explained<W: Write, E: Write>(
     out: &mut W,
     err: &mut E,
 ) -> Ending
-    ensures explained { EndsExplained form outcome result (W.contents out.old) (W.contents out.new)
+    requires { Reports session.said outcome.report }
+    ensures explained { EndsExplained form session.said outcome result (W.contents out.old) (W.contents out.new)
         (E.contents err.old) (E.contents err.new) }
     ensures silent { result.status ≢ 2 → err.new ≡ err.old }
 {
@@ -117,46 +122,90 @@ fn words_on(
     Ok(words)
 }
 
+// Returns the page of the explanation. A plain page begins with the check's end line.
 fn page_of(
     alloc: Global,
     form: Form,
     session: Session,
     report: &Report,
 ) -> Result<Vec<u8>, NoMemory>
-    ensures { IfOk result (λ page. IsPage form report.now page.items) }
+    requires { Reports session.said report.now }
+    ensures { IfOk result (λ page. IsPage form session.said report.now page.items) }
 {
-    let body = body_of(alloc, form, session)?;
     let mut page = Vec::new(alloc);
-    if form == Form::Page {
-        put_end(&mut page, report.labels, report.fault)?;
-    }
+    put_first(&mut page, form, report)?;
+    let body = body_of(alloc, form, session)?;
     page.extend_from_slice(&body)?;
     Ok(page)
 }
 
-fn body_of(alloc: Global, form: Form, session: Session) -> Result<Vec<u8>, NoMemory> {
-    let mut body = Vec::new(alloc);
-    if let Some((monitor, names)) = session.into_history() {
-        put_history(&mut body, form, monitor, &names)?;
+fn put_first(page: &mut Vec<u8>, form: Form, report: &Report) -> Result<(), NoMemory>
+    ensures { OnOk result (page.new.items ≡ page.old.items ++ head_for form report.now) }
+{
+    match form {
+        Form::Page => put_end(page, report.labels, report.fault),
+        Form::Json | Form::Svg | Form::Html | Form::Sequence => Ok(()),
     }
-    Ok(body)
 }
 
-// Explains the monitor's history. The sequence alone is written from the monitor itself.
-fn put_history(
-    body: &mut Vec<u8>,
+fn body_of(alloc: Global, form: Form, session: Session) -> Result<Vec<u8>, NoMemory>
+    requires { (report : Report) × Reports session.said report }
+    ensures { IfOk result (λ body. (monitor : model.Monitor) × IsToldBy session.said monitor
+        × IsBody form monitor.setup monitor.log (names_said session.said) body.items) }
+{
+    match session.into_history() {
+        Some((monitor, names)) => history_body(alloc, form, monitor, &names),
+        None => unreachable!(),
+    }
+}
+
+// Returns what the form shows of the monitor's history: an explanation, or the sequence.
+fn history_body(
+    alloc: Global,
     form: Form,
     monitor: Monitor,
     names: &Names,
-) -> Result<(), NoMemory> {
-    let Some(purpose) = purpose_of(form) else {
-        return put_sequence(body, &monitor);
-    };
-    let explanation = Explanation::of(*body.allocator(), monitor, purpose)?;
-    let view = View {
-        explanation: &explanation,
-        names,
-    };
+) -> Result<Vec<u8>, NoMemory>
+    ensures { IfOk result (λ body. IsBody form monitor.setup monitor.log names.now body.items) }
+{
+    match purpose_of(form) {
+        Some(purpose) => explained_body(alloc, form, purpose, monitor, names),
+        None => sequence_body(alloc, monitor),
+    }
+}
+
+fn explained_body(
+    alloc: Global,
+    form: Form,
+    purpose: Purpose,
+    monitor: Monitor,
+    names: &Names,
+) -> Result<Vec<u8>, NoMemory>
+    ensures { IfOk result (λ body.
+        IsBodyFor (Some purpose) form monitor.setup monitor.log names.now body.items) }
+{
+    let explanation = Explanation::of(alloc, monitor, purpose)?;
+    let mut body = Vec::new(alloc);
+    put_explanation(&mut body, form, &explanation, names)?;
+    Ok(body)
+}
+
+// Returns the sequence, which is written from the monitor itself.
+fn sequence_body(alloc: Global, monitor: Monitor) -> Result<Vec<u8>, NoMemory> {
+    let mut body = Vec::new(alloc);
+    put_sequence(&mut body, &monitor)?;
+    Ok(body)
+}
+
+fn put_explanation(
+    body: &mut Vec<u8>,
+    form: Form,
+    explanation: &Explanation,
+    names: &Names,
+) -> Result<(), NoMemory>
+    ensures { OnOk result (PutsExplanation form explanation.now names.now body.old.items body.new.items) }
+{
+    let view = View { explanation, names };
     match form {
         Form::Page => put_page(body, &view),
         Form::Json => put_json(body, &view),
@@ -166,7 +215,9 @@ fn put_history(
     }
 }
 
-fn purpose_of(form: Form) -> Option<Purpose> {
+fn purpose_of(form: Form) -> Option<Purpose>
+    ensures { result ≡ purpose_for form }
+{
     match form {
         Form::Page | Form::Html => Some(Purpose::Text),
         Form::Json => Some(Purpose::Object),
