@@ -46,7 +46,7 @@ chain_leads order edges new extends (next ∷ cycle) from edge to among chain =
     (λ e there. among e (behind_head edge (next ∷ cycle) e there)) chain.1 in
     subst (λ a. IsBefore order a to) chain.0 (transitive order edge.before edge.after to new step rest)
 
-counted : (xs : List ℕ) (x : ℕ) → Contains xs x → 1 ≤ count_by (λ y. y == x) xs
+pub counted : (xs : List ℕ) (x : ℕ) → Contains xs x → 1 ≤ count_by (λ y. y == x) xs
 counted [] x there = absurd (none_there x there)
 counted (y ∷ ys) x there =
     let p : ℕ → ℕ = λ z. cond (z == x) 1 0 in

@@ -3,9 +3,13 @@ pub mod Befores
 pub mod Cycles
 pub mod EdgePools
 pub mod Ends
+pub mod Halves
+pub mod Insertions
+pub mod JoinedChunks
 pub mod Listings
 pub mod Members
+pub mod Moves
 pub mod Puts
-pub mod Sequences
+pub mod Spans
 pub mod Sweeps
 pub mod Ways

@@ -1,9 +1,9 @@
 -- The order with one more element.
-use Rattle.std.proofs.Common.{◌≡◌, ℕ, ◌+◌, ◌<◌, ◌≤◌, cond, List, [], ◌∷◌, ◌++◌, length, get_or, take, drop, sym, ap, ◌∙◌, subst, inl, inr, arith, append_assoc}
-use Rattle.std.specs.Prelude.{◌==◌, Contains, count_by, Option, Some, None, MatchOption}
+use Rattle.std.proofs.Common.{◌≡◌, ℕ, ◌+◌, ◌<◌, ◌≤◌, cond, List, [], ◌∷◌, ◌++◌, length, get_or, take, drop, Result, Ok, Err, refl, sym, ap, ◌∙◌, subst, inl, inr, arith, append_assoc}
+use Rattle.std.specs.Prelude.{◌==◌, Contains, count_by, Option, Some, None, OnOk, OnErr}
 use Rattle.std.specs.List.{insert}
 use Rattle.std.proofs.lemmas.Bool.{cases_Bool, cond-true, cond-false, eqb-true}
-use Rattle.std.proofs.lemmas.List.{take_more, drop_more, take-append-drop}
+use Rattle.std.proofs.lemmas.List.{take_more, drop_more, take-append-drop, take_at, drop_at}
 use Rattle.std.proofs.lemmas.List.Sums.{sum_by-cons}
 use Rattle.std.proofs.lemmas.List.Sorted.{IsPermutation-insert, sum_by-IsPermutation}
 use Rattle.ra_list_order.specs.declared.edge.Edge.{Edge}
@@ -25,7 +25,7 @@ not_counted (y ∷ ys) x new =
           omega (arith, split, rest, none)
     ]
 
-once_put : (order : List ℕ) (at element : ℕ) → ¬ Contains order element → EachOnce order
+pub once_put : (order : List ℕ) (at element : ℕ) → ¬ Contains order element → EachOnce order
     → EachOnce (insert order at element)
 once_put order at element new once x =
     let p : ℕ → ℕ = λ y. cond (y == x) 1 0 in
@@ -49,17 +49,13 @@ extends_put order at element edges extends edge among =
     (before_wider (take at order) (element ∷ []) (drop at order) edge.before edge.after
     (subst (λ xs. IsBefore xs edge.before edge.after) (sym (take-append-drop at order)) (extends edge among)))
 
-pub kept_put : (order : List ℕ) (at element : ℕ) (edges : List Edge) (new : List ℕ) → new ≡ insert order at element
+kept_put : (order : List ℕ) (at element : ℕ) (edges : List Edge) (new : List ℕ) → new ≡ insert order at element
     → ¬ Contains order element → ListOrderKept order edges → ListOrderKept new edges
 kept_put order at element edges new made fresh kept =
     subst (λ xs. ListOrderKept xs edges) (sym made) (record {
       once = once_put order at element fresh kept.once;
       extends = extends_put order at element edges kept.extends;
     })
-
--- holds if the place is that of the right neighbour, or the front without one
-abbrev pub IsPlaceBefore : List ℕ → Option ℕ → ℕ → Type 0
-IsPlaceBefore order right at = MatchOption right (at ≡ 0) (λ r. (at < length order) × (get_or order at 0 ≡ r))
 
 pub put_behind : (order : List ℕ) (p left element : ℕ) (right : Option ℕ) (new : List ℕ) → p < length order
     → get_or order p 0 ≡ left → new ≡ insert order (p + 1) element → IsPut order (Some left) right element new
@@ -73,7 +69,7 @@ put_behind order p left element right new within is made =
       made ∙ ap (λ xs. xs ++ element ∷ back) more ∙ append_assoc front (left ∷ []) (element ∷ back),
     )
 
-put_before : (order : List ℕ) (p right element : ℕ) (new : List ℕ) → p < length order
+pub put_before : (order : List ℕ) (p right element : ℕ) (new : List ℕ) → p < length order
     → get_or order p 0 ≡ right → new ≡ insert order p element → IsPut order None (Some right) element new
 put_before order p right element new within is made =
     let front = take p order in
@@ -85,26 +81,37 @@ put_before order p right element new within is made =
       made ∙ ap (λ xs. front ++ element ∷ xs) rest,
     )
 
-put_without_left : (order : List ℕ) (at element : ℕ) (right : Option ℕ) (new : List ℕ)
-    → IsPlaceBefore order right at → new ≡ insert order at element → IsPut order None right element new
-put_without_left order at element None new place made = made ∙ ap (λ n. insert order n element) place
-put_without_left order at element (Some right) new place made =
-    put_before order at right element new place.0 place.1 made
+parted : (front back old new : List ℕ) (element : ℕ) → old ≡ front ++ back → new ≡ front ++ element ∷ back
+    → new ≡ insert old (length front) element
+parted front back old new element old_is new_is =
+    new_is ∙ ap (λ xs. xs ++ element ∷ back) (sym (take_at front back (length front) refl))
+    ∙ ap (λ xs. take (length front) (front ++ back) ++ element ∷ xs) (sym (drop_at front back (length front) refl))
+    ∙ ap (λ xs. insert xs (length front) element) (sym old_is)
 
--- the same as the code reads it
-pub put_first : (order now read : List ℕ) (result at element : ℕ) (right : Option ℕ) (new : List ℕ) → at ≡ result
-    → order ≡ now → read ≡ order → IsPlaceBefore read right result → new ≡ insert order at element
-    → IsPut now None right element new
-put_first order now read result at element right new is same reads place made =
-    put_without_left now at element right new
-    (subst (λ xs. IsPlaceBefore xs right at) (reads ∙ same) (subst (λ n. IsPlaceBefore read right n) (sym is) place))
-    (made ∙ ap (λ xs. insert xs at element) same)
+-- an element that is put next to its neighbour is inserted somewhere
+put_somewhere : (old : List ℕ) (left right : Option ℕ) (element : ℕ) (new : List ℕ) → IsPut old left right element new
+    → (at : ℕ) × (new ≡ insert old at element)
+put_somewhere old (Some left) right element new (front, back, old_is, new_is) = (
+  length (front ++ left ∷ []),
+  parted (front ++ left ∷ []) back old new element (old_is ∙ sym (append_assoc front (left ∷ []) back))
+      (new_is ∙ sym (append_assoc front (left ∷ []) (element ∷ back))),
+)
+put_somewhere old None (Some right) element new (front, back, old_is, new_is) = (
+  length front,
+  parted front (right ∷ back) old new element old_is new_is,
+)
+put_somewhere old None None element new made = (0, made)
 
-pub put_second : (order now read : List ℕ) (p at left element : ℕ) (right : Option ℕ) (new : List ℕ) → at ≡ p + 1
-    → order ≡ now → read ≡ order → p < length read → get_or read p 0 ≡ left
-    → new ≡ insert order at element → IsPut now (Some left) right element new
-put_second order now read p at left element right new is same reads within there made =
-    let whole : read ≡ now = reads ∙ same in
-    put_behind now p left element right new (subst (λ xs. p < length xs) whole within)
-    (ap (λ xs. get_or xs p 0) (sym whole) ∙ there)
-    (made ∙ ap (λ n. insert order n element) is ∙ ap (λ xs. insert xs (p + 1) element) same)
+kept_as_put : (old : List ℕ) (left right : Option ℕ) (element : ℕ) (edges : List Edge) (new : List ℕ)
+    → IsPut old left right element new → ¬ Contains old element → ListOrderKept old edges → ListOrderKept new edges
+kept_as_put old left right element edges new put fresh kept =
+    let at = put_somewhere old left right element new put in kept_put old at.0 element edges new at.1 fresh kept
+
+-- the same, whether the element was put or nothing is changed
+pub kept_by_result : {T E : Type 0} (r : Result T E) (old : List ℕ) (left right : Option ℕ) (element : ℕ)
+    (edges : List Edge) (new : List ℕ) → OnOk r (IsPut old left right element new) → OnErr r (new ≡ old)
+    → ¬ Contains old element → ListOrderKept old edges → ListOrderKept new edges
+kept_by_result (Ok was) old left right element edges new put failed fresh kept =
+    kept_as_put old left right element edges new put fresh kept
+kept_by_result (Err was) old left right element edges new put failed fresh kept =
+    subst (λ xs. ListOrderKept xs edges) (sym failed) kept

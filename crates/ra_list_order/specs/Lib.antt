@@ -1,7 +1,7 @@
+pub mod Chunks
 pub mod EdgePool
 pub mod Edges
 pub mod ListOrder
 pub mod Listing
 pub mod Marks
-pub mod Sequence
 pub mod Sweep

@@ -6,9 +6,13 @@
 //! extends those edges.
 #![tactic(auto)]
 
+mod chunk;
+mod chunks;
 mod edge;
 mod edge_pool;
+mod groups;
 mod list_order;
+mod parts;
 mod sequence;
 mod sweep;
 #[cfg(test)]

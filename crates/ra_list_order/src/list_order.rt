@@ -1,5 +1,5 @@
 //! The kept order and its edges.
-ghost use Rattle.std.specs.Prelude.{◌≡◌, ◌<◌, ◌++◌, ◌∷◌, [], length, take, Contains, IfOk, OnOk, OnErr, IfSome, MatchOption, IsTrue, ◌↔◌, slice_index};
+ghost use Rattle.std.specs.Prelude.{◌≡◌, ◌+◌, ◌<◌, ◌≤◌, ◌++◌, ◌∷◌, [], length, take, drop, vec_len, Contains, IfOk, OnOk, OnErr, IfSome, MatchOption, IsTrue, ◌↔◌};
 ghost use Rattle.std.specs.List.Sorted.{IsPermutation};
 ghost use Rattle.ra_list_order.specs.declared.edge.Edge.{Edge};
 ghost use Rattle.ra_list_order.specs.Edges.{EachOnce, Extends, HasEdge, IsCycle};
@@ -7,7 +7,8 @@ ghost use Rattle.ra_list_order.specs.ListOrder.{IsPut};
 
 use crate::edge::Edge;
 use crate::edge_pool::EdgePool;
-use crate::sequence::Sequence;
+use crate::parts::{part_with, write_back};
+use crate::sequence::{Sequence, Span};
 use crate::sweep::sweep;
 use crate::way::{is_marked, way_to};
 use ra_labels::NoMemory;
@@ -24,13 +25,14 @@ pub struct ListOrder {
 }
 
 impl Model for ListOrder {
+    ghost use Rattle.ra_list_order.specs.Chunks.{joined};
     ghost use Rattle.ra_list_order.specs.ListOrder.{ListOrder, ListOrderKept};
 
     ghost Value = { ListOrder };
 
-    ghost view = { λ a. record { order = a.order; edges = a.edges } };
+    ghost view = { λ a. record { order = joined a.order; edges = a.edges } };
 
-    ghost invariant = { λ a. ListOrderKept a.order a.edges };
+    ghost invariant = { λ a. ListOrderKept (joined a.order) a.edges };
 }
 
 impl ListOrder {
@@ -54,7 +56,7 @@ impl ListOrder {
         // Each edge is from an element to a later one.
         ensures extends { Extends self.now.order self.now.edges }
     {
-        let _elements = self.order.as_slice();
+        let _chunks = self.order.chunk_count();
     }
 
     /// Returns `true` if the element is in the order.
@@ -94,7 +96,11 @@ impl ListOrder {
         // The result is the elements in the kept order.
         ensures { IfOk result (λ elements. elements.items ≡ self.now.order) }
     {
-        Ok(self.order.as_slice().to_vec(alloc)?)
+        let span = Span {
+            first: 0,
+            end: self.order.chunk_count(),
+        };
+        self.order.copied(alloc, span)
     }
 
     /// Inserts an element directly behind its left neighbour. Without a left neighbour the element is inserted directly
@@ -106,7 +112,8 @@ impl ListOrder {
     ///
     /// # Complexity
     ///
-    /// O(log n) at the end, and O(n) elsewhere, with `n` elements.
+    /// O(log n + c) with `n` elements, `c` of them in the chunk of the neighbour, which are at most 128. Once in about
+    /// 64 insertions a full chunk is split, which takes O(n / 64) more.
     pub fn put(
         &mut self,
         element: u32,
@@ -126,12 +133,13 @@ impl ListOrder {
         // After a failure nothing is changed.
         ensures failed { OnErr result (self.new ≡ self.old) }
     {
-        let at = match left {
-            Some(left) => self.order.place_of(left) + 1,
-            None => place_before(&self.order, right),
-        };
-        self.order.insert(at, element)?;
-        Ok(())
+        match left {
+            Some(left) => self.order.insert_behind(left, element),
+            None => match right {
+                Some(right) => self.order.insert_before(right, element),
+                None => self.order.insert_first(element),
+            },
+        }
     }
 
     /// Adds an edge, and moves elements so that the order extends it; or returns a cycle of edges, this one among them.
@@ -143,7 +151,8 @@ impl ListOrder {
     /// # Complexity
     ///
     /// With `n` elements and edges, O(log n) if `before` is already before `after`. Otherwise O((k + m) log n), where
-    /// `k` is the number of elements from `after` to `before`, and `m` that of the edges from those that move.
+    /// `k` is the number of elements in the chunks from that of `after` to that of `before`, and `m` that of the edges
+    /// from those that move.
     pub fn add(
         &mut self,
         alloc: Global,
@@ -173,19 +182,13 @@ impl ListOrder {
             after,
             label,
         };
-        let first = self.order.place_of(after);
-        let last = self.order.place_of(before);
-        if last < first {
+        let Some(span) = self.order.span(after, before) else {
             self.edges.push(edge)?;
             return Ok(None);
-        }
-        let end = last + 1;
-        let swept = sweep(
-            alloc,
-            &self.order.as_slice()[first..end],
-            &self.edges,
-            after,
-        )?;
+        };
+        let mut elements = self.order.copied(alloc, span)?;
+        let (start, end) = part_with(&elements, after, before);
+        let swept = sweep(alloc, &elements[start..end], &self.edges, after)?;
         if is_marked(after, &swept.walked, before) {
             let mut cycle = way_to(alloc, after, &swept.walked, before)?;
             cycle.insert(0, edge)?;
@@ -194,7 +197,8 @@ impl ListOrder {
         let mut parts = swept.stays;
         parts.extend_from_slice(&swept.moves)?;
         self.edges.push(edge)?;
-        self.order.overwrite(first, &parts);
+        write_back(&mut elements, start, &parts);
+        self.order.overwrite(span, &elements);
         Ok(None)
     }
 
@@ -210,17 +214,5 @@ impl ListOrder {
         ensures edges { self.new.edges ≡ take count self.old.edges }
     {
         self.edges.truncate(count);
-    }
-}
-
-// Returns the index of the right neighbour; without one, that of the front.
-fn place_before(order: &Sequence, right: Option<u32>) -> usize
-    requires { IfSome right (λ r. Contains order.now r) }
-    ensures { MatchOption right (result ≡ 0)
-        (λ r. (result < length order.now) × (slice_index order.now result ≡ r)) }
-{
-    match right {
-        Some(right) => order.place_of(right),
-        None => 0,
     }
 }

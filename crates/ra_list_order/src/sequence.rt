@@ -1,39 +1,51 @@
-//! Distinct elements in an order, with the index of each.
-ghost use Rattle.std.specs.Prelude.{◌≡◌, ℕ, ◌+◌, ◌<◌, ◌≤◌, ◌++◌, ◌↔◌, [], Some, length, get_or, take, drop, vec_len, vec_capacity, Contains, IsTrue, OnOk, OnErr, slice_index, ◌^◌};
-ghost use Rattle.std.specs.BTreeMap.{get};
-ghost use Rattle.std.specs.List.{insert};
+//! Distinct elements in an order, in chunks, with the chunk of each. Its contract is that of the chunks' concatenation.
+ghost use Rattle.std.specs.Prelude.{◌≡◌, ◌<◌, ◌≤◌, ◌++◌, ◌∷◌, ◌↔◌, [], Some, None, length, take, drop, Contains, IsTrue, IfOk, OnOk, OnErr, MatchOption, slice_index};
+ghost use Rattle.std.specs.List.{between};
 ghost use Rattle.std.specs.List.Sorted.{IsPermutation};
-ghost use Rattle.std.specs.Ordering.{nat_cmp};
-ghost use Rattle.ra_list_order.specs.Edges.{EachOnce};
-ghost use Rattle.ra_list_order.specs.Sequence.{IsRaised, HaveNumbers, ArePlacedFrom};
+ghost use Rattle.ra_list_order.specs.Edges.{IsBefore};
+ghost use Rattle.ra_list_order.specs.ListOrder.{IsPut};
+ghost use Rattle.ra_list_order.specs.Chunks.{chunk_at, joined, IsInsertedAt, IsSpan};
 
+use crate::chunk::Chunk;
+use crate::chunks::{copied, refill, split};
+use crate::groups::move_to_chunks;
+use crate::parts::{is_before, position_of};
 use ra_labels::NoMemory;
 use std::alloc::Global;
 use std::collections::BTreeMap;
 use std::marker::Model;
 
-/// Distinct elements in an order. The index of an element is found without a walk along the others.
+/// A range of chunks.
+#[derive(Clone, Copy)]
+pub struct Span {
+    /// The index of the first chunk.
+    pub first: usize,
+    /// The index behind the last chunk.
+    pub end: usize,
+}
+
+/// Distinct elements in an order. An insertion moves only elements of its chunk.
 #[derive(Drop)]
 pub struct Sequence {
-    /// The number of each element: how many were inserted before it.
-    numbers: BTreeMap<u32, usize>,
-    /// The elements in order.
-    order: Vec<u32>,
-    /// For each number, the index of the element.
+    /// The group of each element, which the elements of its chunk share.
+    groups: BTreeMap<u32, usize>,
+    /// The chunks in order.
+    chunks: Vec<Chunk>,
+    /// For each group, the index of its chunk.
     places: Vec<usize>,
 }
 
 impl Model for Sequence {
-    ghost use Rattle.std.specs.Prelude.{ℕ, List};
+    ghost use Rattle.std.specs.Prelude.{List};
     ghost use Rattle.std.specs.BTreeMap.{get};
     ghost use Rattle.std.specs.Ordering.{nat_cmp};
-    ghost use Rattle.ra_list_order.specs.Sequence.{ArePlaced};
+    ghost use Rattle.ra_list_order.specs.Chunks.{Chunk, AreGrouped};
 
-    ghost Value = { List ℕ };
+    ghost Value = { List Chunk };
 
-    ghost view = { λ a. a.order.items };
+    ghost view = { λ a. a.chunks.items };
 
-    ghost invariant = { λ a. ArePlaced (get nat_cmp a.numbers) a.order.items a.places.items };
+    ghost invariant = { λ a. AreGrouped (get nat_cmp a.groups) a.chunks.items a.places.items };
 }
 
 impl Sequence {
@@ -42,17 +54,17 @@ impl Sequence {
         ensures { result ≡ [] }
     {
         Sequence {
-            numbers: BTreeMap::new(alloc),
-            order: Vec::new(alloc),
+            groups: BTreeMap::new(alloc),
+            chunks: Vec::new(alloc),
             places: Vec::new(alloc),
         }
     }
 
-    /// Returns the elements in order.
-    pub fn as_slice(&self) -> &[u32]
-        ensures { result.now ≡ self.now }
+    /// Returns the number of chunks.
+    pub fn chunk_count(&self) -> usize
+        ensures { result ≡ length self.now }
     {
-        self.order.as_slice()
+        self.chunks.len()
     }
 
     /// Returns `true` if the element is in the sequence.
@@ -61,105 +73,176 @@ impl Sequence {
     ///
     /// O(log n) with `n` elements.
     pub fn contains(&self, element: u32) -> bool
-        ensures { IsTrue result ↔ Contains self.now element }
+        ensures { IsTrue result ↔ Contains (joined self.now) element }
     {
-        self.numbers.contains_key(&element)
+        self.groups.contains_key(&element)
     }
 
-    /// Returns the index of the element.
-    ///
-    /// # Complexity
-    ///
-    /// O(log n) with `n` elements.
-    pub fn place_of(&self, element: u32) -> usize
-        requires { Contains self.now element }
-        ensures within { result < length self.now }
-        ensures there { slice_index self.now result ≡ element }
-        ensures small { result < 2 ^ 63 }
-    {
-        let number = self.numbers[&element];
-        self.places[number]
-    }
-
-    /// Inserts a new element at the index.
+    /// Returns the elements of a range of chunks, in order.
     ///
     /// # Errors
     ///
-    /// `NoMemory` if allocation fails; nothing is changed.
+    /// `NoMemory` if allocation fails.
     ///
     /// # Complexity
     ///
-    /// O(log n) at the end, and O(n) elsewhere, with `n` elements.
-    pub fn insert(&mut self, at: usize, element: u32) -> Result<(), NoMemory>
-        requires within { at ≤ length self.old }
-        requires new { ¬ Contains self.old element }
-        ensures inserted { OnOk result (self.new ≡ insert self.old at element) }
-        ensures failed { OnErr result (self.new ≡ self.old) }
+    /// O(length of the result).
+    pub fn copied(&self, alloc: Global, span: Span) -> Result<Vec<u32>, NoMemory>
+        requires ordered { span.first ≤ span.end }
+        requires within { span.end ≤ length self.now }
+        ensures { IfOk result (λ elements. elements.items ≡ joined (between span.first span.end self.now)) }
     {
-        self.places.reserve(1)?;
-        self.order.reserve(1)?;
-        let number = self.places.len();
-        self.numbers.insert(element, number)?;
-        let _ = self.order.insert(at, element);
-        raise(&mut self.places, at);
-        self.places.push_reserved(at);
-        Ok(())
+        copied(alloc, &self.chunks[span.first..span.end])
     }
 
-    /// Overwrites the elements from an index on with the same elements in another order. Does not allocate.
+    /// Returns the range from the chunk of one element to that of another, or `None` if the other one is before it.
+    ///
+    /// # Complexity
+    ///
+    /// O(log n + c) with `n` elements, `c` of them in one chunk.
+    pub fn span(&self, one: u32, other: u32) -> Option<Span>
+        requires one { Contains (joined self.now) one }
+        requires other { Contains (joined self.now) other }
+        ensures { MatchOption result (IsBefore (joined self.now) other one)
+            (λ span. IsSpan self.now one other span.first span.end) }
+    {
+        let first = self.place_of(one);
+        let last = self.place_of(other);
+        if last < first || last == first && is_before(self.chunks[first].elements(), other, one) {
+            return None;
+        }
+        Some(Span {
+            first,
+            end: last + 1,
+        })
+    }
+
+    /// Overwrites the elements of a range of chunks with the same elements in another order. Does not allocate.
     ///
     /// # Complexity
     ///
     /// O(k log n) with `n` elements, `k` of which are overwritten.
-    pub fn overwrite(&mut self, first: usize, parts: &[u32])
-        requires once { EachOnce self.old }
-        requires within { first + length parts.now ≤ length self.old }
-        requires same { IsPermutation self.old
-            (take first self.old ++ (parts.now ++ drop (length parts.now) (drop first self.old))) }
-        ensures { self.new ≡ take first self.old ++ (parts.now ++ drop (length parts.now) (drop first self.old)) }
+    pub fn overwrite(&mut self, span: Span, elements: &[u32])
+        requires ordered { span.first ≤ span.end }
+        requires within { span.end ≤ length self.old }
+        requires same { IsPermutation (joined (between span.first span.end self.old)) elements.now }
+        ensures { joined self.new
+            ≡ joined (take span.first self.old) ++ (elements.now ++ joined (drop span.end self.old)) }
     {
-        overwrite(&mut self.order, first, parts);
-        place(&self.numbers, &mut self.places, first, parts);
+        refill(&mut self.chunks[span.first..span.end], elements);
+        move_to_chunks(&mut self.groups, &self.chunks[span.first..span.end]);
     }
-}
 
-// Adds one to each index from this one on. At the end there is none.
-fn raise(places: &mut Vec<usize>, at: usize)
-    ensures len { vec_len places.new ≡ vec_len places.old }
-    ensures raised { (m : ℕ) → m < vec_len places.old → get_or places.old.items m 0 < vec_len places.old
-        → IsRaised at (get_or places.old.items m 0) (get_or places.new.items m 0) }
-    ensures capacity { vec_capacity places.new ≡ vec_capacity places.old }
-{
-    if at == places.len() {
-        return;
+    /// Inserts a new element directly behind another one.
+    ///
+    /// # Errors
+    ///
+    /// `NoMemory` if allocation fails; the elements and their order are unchanged.
+    ///
+    /// # Complexity
+    ///
+    /// O(log n + c) with `n` elements, `c` of them in one chunk. If that chunk is full, it is split first.
+    pub fn insert_behind(&mut self, left: u32, element: u32) -> Result<(), NoMemory>
+        requires left { Contains (joined self.old) left }
+        requires new { ¬ Contains (joined self.old) element }
+        ensures put { OnOk result (IsPut (joined self.old) (Some left) None element (joined self.new)) }
+        ensures failed { OnErr result (joined self.new ≡ joined self.old) }
+    {
+        self.make_room(self.place_of(left))?;
+        let place = self.place_of(left);
+        let position = position_of(self.chunks[place].elements(), left);
+        self.insert_at(place, position + 1, element)
     }
-    for place in places.iter_mut() {
-        if *place >= at {
-            *place = place.saturating_add(1);
+
+    /// Inserts a new element directly before another one.
+    ///
+    /// # Errors
+    ///
+    /// `NoMemory` if allocation fails; the elements and their order are unchanged.
+    ///
+    /// # Complexity
+    ///
+    /// That of `insert_behind`.
+    pub fn insert_before(&mut self, right: u32, element: u32) -> Result<(), NoMemory>
+        requires right { Contains (joined self.old) right }
+        requires new { ¬ Contains (joined self.old) element }
+        ensures put { OnOk result (IsPut (joined self.old) None (Some right) element (joined self.new)) }
+        ensures failed { OnErr result (joined self.new ≡ joined self.old) }
+    {
+        self.make_room(self.place_of(right))?;
+        let place = self.place_of(right);
+        let position = position_of(self.chunks[place].elements(), right);
+        self.insert_at(place, position, element)
+    }
+
+    /// Inserts a new element at the front.
+    ///
+    /// # Errors
+    ///
+    /// `NoMemory` if allocation fails; the elements and their order are unchanged.
+    ///
+    /// # Complexity
+    ///
+    /// That of `insert_behind`.
+    pub fn insert_first(&mut self, element: u32) -> Result<(), NoMemory>
+        requires new { ¬ Contains (joined self.old) element }
+        ensures put { OnOk result (joined self.new ≡ element ∷ joined self.old) }
+        ensures failed { OnErr result (joined self.new ≡ joined self.old) }
+    {
+        if self.chunks.is_empty() {
+            self.push_chunk()?;
         }
+        self.make_room(0)?;
+        self.insert_at(0, 0, element)
     }
-}
 
-// Overwrites the elements from this index on with the parts.
-fn overwrite(order: &mut Vec<u32>, first: usize, parts: &[u32])
-    requires { first + length parts.now ≤ vec_len order.old }
-    ensures { order.new.items
-        ≡ take first order.old.items ++ (parts.now ++ drop (length parts.now) (drop first order.old.items)) }
-{
-    let end = first + parts.len();
-    order[first..end].copy_from_slice(parts);
-}
+    // Returns the index of the chunk of the element.
+    fn place_of(&self, element: u32) -> usize
+        requires { Contains (joined self.now) element }
+        ensures within { result < length self.now }
+        ensures there { Contains (chunk_at self.now result).elements element }
+    {
+        let group = self.groups[&element];
+        self.places[group]
+    }
 
-// Sets the indexes of the parts, which are one after another from this index on.
-fn place(numbers: &BTreeMap<u32, usize>, places: &mut Vec<usize>, first: usize, parts: &[u32])
-    requires small { first + length parts.now < 2 ^ 63 }
-    requires known { HaveNumbers (get nat_cmp numbers.now) parts.now (vec_len places.old) }
-    ensures len { vec_len places.new ≡ vec_len places.old }
-    ensures placed { ArePlacedFrom (get nat_cmp numbers.now) parts.now (length parts.now) first
-        places.old.items places.new.items }
-{
-    for (i, part) in parts.iter().enumerate() {
-        let number = numbers[part];
-        places[number] = first + i;
+    // Splits the chunk at the index if it is full.
+    fn make_room(&mut self, place: usize) -> Result<(), NoMemory>
+        requires { place < length self.old }
+        ensures joined { joined self.new ≡ joined self.old }
+        ensures as_many { length self.old ≤ length self.new }
+    {
+        if self.chunks[place].is_full() {
+            split(&mut self.groups, &mut self.chunks, &mut self.places, place)?;
+        }
+        Ok(())
+    }
+
+    // Adds a chunk without elements behind the others.
+    fn push_chunk(&mut self) -> Result<(), NoMemory>
+        ensures joined { joined self.new ≡ joined self.old }
+        ensures some { OnOk result (0 < length self.new) }
+    {
+        self.places.reserve(1)?;
+        self.chunks.reserve(1)?;
+        let chunk = Chunk::new(*self.chunks.allocator(), self.places.len());
+        self.places.push_reserved(self.chunks.len());
+        self.chunks.push_reserved(chunk);
+        Ok(())
+    }
+
+    // Inserts a new element at a position of the chunk at an index.
+    fn insert_at(&mut self, place: usize, position: usize, element: u32) -> Result<(), NoMemory>
+        requires place { place < length self.old }
+        requires among { position ≤ length (chunk_at self.old place).elements }
+        requires new { ¬ Contains (joined self.old) element }
+        ensures inserted { OnOk result (IsInsertedAt self.old place position element self.new) }
+        ensures failed { OnErr result (joined self.new ≡ joined self.old) }
+    {
+        self.chunks[place].reserve()?;
+        let group = self.chunks[place].group();
+        self.groups.insert(element, group)?;
+        self.chunks[place].insert(position, element);
+        Ok(())
     }
 }

@@ -1,6 +1,7 @@
 //! Tests of what no clause states: calls succeed, and `add` returns a cycle exactly if the edge closes one.
 ghost use Rattle.std.specs.Prelude.{◌<◌};
 
+use crate::sequence::Sequence;
 use crate::{Edge, ListOrder};
 use ra_labels::NoMemory;
 use std::alloc::Global;
@@ -9,6 +10,9 @@ use std::test::Fail;
 
 /// The number of elements, from 0 on.
 const ELEMENTS: u32 = 4;
+
+/// The number of elements of an order that has several chunks.
+const MANY: u32 = 1000;
 
 // Inserts an element behind another one, or at the front.
 fn put_behind(
@@ -158,5 +162,78 @@ fn keeps_earliest_edges(rt: HostRuntime) -> Result<(), Fail> {
     assert!(rt; order.has_edge(3, 0) && !order.has_edge(3, 1));
     assert!(rt; add(&rt, alloc, &mut order, edge(0, 3, 2))?.is_some());
     assert!(rt; add(&rt, alloc, &mut order, edge(1, 3, 3))?.is_none());
+    Ok(())
+}
+
+fn order_of_many(rt: &impl Abort, alloc: Global) -> Result<ListOrder, NoMemory> {
+    let mut order = ListOrder::new(alloc);
+    put_behind(rt, &mut order, 0, None)?;
+    for element in 1..MANY {
+        put_behind(rt, &mut order, element, Some(element - 1))?;
+    }
+    Ok(order)
+}
+
+// One element moves from the first chunk to the last one, and one edge against it closes a cycle.
+#[test]
+fn moves_an_element_across_chunks(rt: HostRuntime) -> Result<(), Fail> {
+    let alloc = rt.alloc();
+    let mut order = order_of_many(&rt, alloc)?;
+    assert!(rt; add(&rt, alloc, &mut order, edge(MANY - 1, 0, 0))?.is_none());
+    let elements = order.elements(alloc)?;
+    assert_eq!(rt; elements.len(), MANY as usize);
+    for (i, element) in elements.iter().enumerate() {
+        assert_eq!(rt; *element as usize, (i + 1) % MANY as usize);
+    }
+    put_behind(&rt, &mut order, MANY, Some(0))?;
+    assert!(rt; add(&rt, alloc, &mut order, edge(0, MANY - 1, 1))?.is_some());
+    assert!(rt; add(&rt, alloc, &mut order, edge(0, MANY, 2))?.is_none());
+    Ok(())
+}
+
+// Inserts an element behind another one. Returns the number of steps: the elements of the chunk, which are searched and
+// moved, and all chunks if one was split, since the index of each may be raised.
+fn steps_of_insertion(
+    rt: &impl Abort,
+    alloc: Global,
+    order: &mut Sequence,
+    element: u32,
+    left: u32,
+) -> Result<usize, NoMemory> {
+    assert!(rt; order.contains(left));
+    assert!(rt; !order.contains(element));
+    let chunks = order.chunk_count();
+    order.insert_behind(left, element)?;
+    let mut steps = if order.chunk_count() == chunks {
+        0
+    } else {
+        order.chunk_count()
+    };
+    assert!(rt; order.contains(left));
+    if let Some(span) = order.span(left, left) {
+        steps = steps.saturating_add(order.copied(alloc, span)?.len());
+    }
+    Ok(steps)
+}
+
+// 100,000 insertions at the front of the second half take at most 160 steps each. Without chunks they would take
+// 5,000,000,000 in all.
+#[test]
+fn inserts_in_the_middle_in_few_steps(rt: HostRuntime) -> Result<(), Fail> {
+    let alloc = rt.alloc();
+    let mut order = Sequence::new(alloc);
+    order.insert_first(0)?;
+    for element in 1..MANY {
+        assert!(rt; order.contains(element - 1));
+        assert!(rt; !order.contains(element));
+        order.insert_behind(element - 1, element)?;
+    }
+    let mut steps = 0usize;
+    for element in MANY..MANY + 100_000 {
+        let more = steps_of_insertion(&rt, alloc, &mut order, element, MANY / 2)?;
+        steps = steps.saturating_add(more);
+        assert!(rt; steps <= 16_000_000, "{steps} steps");
+    }
+    assert!(rt; steps > 100_000);
     Ok(())
 }

@@ -1,25 +1,11 @@
-use Rattle.std.proofs.Common.{◌+◌, length, refl, ap, subst}
+use Rattle.std.proofs.Common.{◌≡◌, ◌++◌, ◌∙◌, List, [], ℕ, take, drop, refl, sym, ap, subst}
 use Rattle.std.specs.List.Sorted.{IsPermutation}
+use Rattle.std.specs.List.{between}
 use Rattle.ra_list_order.specs.declared.edge.Edge.{Edge}
+use Rattle.ra_list_order.specs.Chunks.{joined}
 use Rattle.ra_list_order.specs.ListOrder.{ListOrder, ListOrderKept}
-use Rattle.ra_list_order.proofs.Adds.{add_moves, add_cycles, add_stands, parts_fit}
+use Rattle.ra_list_order.proofs.Adds.{parts_fit, same_elements, swept_elements, swept_kept, add_cycles}
 use Rattle.ra_list_order.proofs.list_order.ListOrder.add.Goals as goal
-
-pub invariant_of-self-then-last-first : goal.invariant_of-self-then-last-first
-invariant_of-self-then-last-first c =
-    let edge : Edge = record { before = c.args.before; after = c.args.after; label = c.args.label } in
-    add_stands _ _ _ c.place_of-first.result c.place_of-last.result _ _ edge c.self.invariant
-    refl c.place_of-first.ensures.within c.place_of-first.ensures.there
-    refl c.place_of-last.ensures.within c.place_of-last.ensures.there
-    c.if-last-first.true c.in_ok-push.ensures.pushed
-
-pub returns-then-last-first-clause-extends : goal.returns-then-last-first-clause-extends
-returns-then-last-first-clause-extends c =
-    let edge : Edge = record { before = c.args.before; after = c.args.after; label = c.args.label } in
-    (add_stands _ _ _ c.place_of-first.result c.place_of-last.result _ _ edge c.self.invariant
-    refl c.place_of-first.ensures.within c.place_of-first.ensures.there
-    refl c.place_of-last.ensures.within c.place_of-last.ensures.there
-    c.if-last-first.true c.in_ok-push.ensures.pushed).extends
 
 pub returns-then-is_marked-clause-answer : goal.returns-then-is_marked-clause-answer
 returns-then-is_marked-clause-answer c =
@@ -30,45 +16,66 @@ returns-then-is_marked-clause-answer c =
           c.in_ok-cycle.ensures.walked c.in_ok-insert.ensures.items,
     )
 
-pub overwrite-requires : goal.overwrite-requires
-overwrite-requires c =
+pub write_back-requires : goal.write_back-requires
+write_back-requires c =
     let edge : Edge = record { before = c.args.before; after = c.args.after; label = c.args.label } in
-    record {
-      once = c.self.invariant.once;
-      within = parts_fit c.self.inside.order c.self.inside.order c.as_slice.result.now _ c.place_of-first.result
-          c.place_of-last.result (c.place_of-last.result + 1) _ _ _ _ _ _ _ _ (length c.self.inside.order)
-          refl c.place_of-last.ensures.within c.if-last-first.false refl
-          c.as_slice.ensures refl c.in_ok-swept.ensures c.deref-2.ensures.value
-          c.in_ok-extend_from_slice.ensures.items c.deref-3.ensures.value refl;
-      same = (add_moves _ _ _ _ _ c.place_of-first.result c.place_of-last.result (c.place_of-last.result + 1) _ _
-          c.push-2.new.self edge _ _ _ _ _ _ _ _ _ c.self.invariant
-          refl c.place_of-first.ensures.within c.place_of-first.ensures.there
-          refl c.place_of-last.ensures.within c.place_of-last.ensures.there
-          c.if-last-first.false refl c.as_slice.ensures refl
-          refl c.in_ok-swept.ensures c.deref.ensures.value c.is_marked.ensures c.if-is_marked.false
-          c.deref-2.ensures.value c.in_ok-extend_from_slice.ensures.items c.deref-3.ensures.value refl
-          c.in_ok-push-2.ensures.pushed).1;
-    }
+    parts_fit c.self.inside.order c.in-Some.span.first c.in-Some.span.end c.in_ok-elements.elements.items
+    c.deref.result.now c.deref-2.result.now c.part_with-start.result.0 c.part_with-start.result.1 c.self.inside.edges edge
+    c.in_ok-swept.swept.stays.items c.in_ok-swept.swept.moves.items c.deref-4.result.now c.extend_from_slice.new.self.items
+    c.deref-5.result.now [] c.in_ok-swept.swept.walked.items c.in-Some.ensures
+    c.in_ok-elements.ensures c.deref.ensures.value c.part_with-start.ensures c.deref-2.ensures.value
+    c.in_ok-swept.ensures c.deref-4.ensures.value c.in_ok-extend_from_slice.ensures.items c.deref-5.ensures.value
+    c.in_ok-elements.elements.len (sym c.in_ok-elements.elements.ok.0)
 
-moved : (c : goal.After-drop-swept-3) → ListOrderKept c.overwrite.new.self c.push-2.new.self
-    × IsPermutation c.self.inside.order c.overwrite.new.self
+pub overwrite-requires-clause-same : goal.overwrite-requires-clause-same
+overwrite-requires-clause-same c =
+    let edge : Edge = record { before = c.args.before; after = c.args.after; label = c.args.label } in
+    subst (λ xs. IsPermutation (joined (between c.in-Some.span.first c.in-Some.span.end c.self.inside.order)) xs)
+    (sym c.deref-6.ensures.value)
+    (same_elements c.self.inside.order c.in-Some.span.first c.in-Some.span.end c.in_ok-elements.elements.items
+    c.deref.result.now c.deref-2.result.now c.part_with-start.result.0 c.part_with-start.result.1 c.self.inside.edges edge
+    c.in_ok-swept.swept.stays.items c.in_ok-swept.swept.moves.items c.deref-4.result.now c.extend_from_slice.new.self.items
+    c.deref-5.result.now c.write_back.new.elements.items c.in_ok-swept.swept.walked.items c.in-Some.ensures
+    c.in_ok-elements.ensures c.deref.ensures.value c.part_with-start.ensures c.deref-2.ensures.value
+    c.in_ok-swept.ensures c.deref-4.ensures.value c.in_ok-extend_from_slice.ensures.items c.deref-5.ensures.value c.write_back.ensures)
+
+overwritten : (c : goal.After-drop-elements-2) → joined c.overwrite.new.self
+    ≡ joined (take c.in-Some.span.first c.self.inside.order)
+    ++ (c.write_back.new.elements.items ++ joined (drop c.in-Some.span.end c.self.inside.order))
+overwritten c =
+    c.overwrite.ensures
+    ∙ ap (λ (xs : List ℕ). joined (take c.in-Some.span.first c.self.inside.order)
+    ++ (xs ++ joined (drop c.in-Some.span.end c.self.inside.order))) c.deref-6.ensures.value
+
+moved : (c : goal.After-drop-elements-2) → IsPermutation (joined c.self.inside.order) (joined c.overwrite.new.self)
 moved c =
     let edge : Edge = record { before = c.args.before; after = c.args.after; label = c.args.label } in
-    add_moves _ _ _ _ _ c.place_of-first.result c.place_of-last.result (c.place_of-last.result + 1) _ _ _ edge
-    _ _ _ _ _ _ _ _ _ c.self.invariant
-    refl c.place_of-first.ensures.within c.place_of-first.ensures.there
-    refl c.place_of-last.ensures.within c.place_of-last.ensures.there
-    c.if-last-first.false refl c.as_slice.ensures refl
-    refl c.in_ok-swept.ensures c.deref.ensures.value c.is_marked.ensures c.if-is_marked.false
-    c.deref-2.ensures.value c.in_ok-extend_from_slice.ensures.items c.deref-3.ensures.value c.overwrite.ensures
-    c.in_ok-push-2.ensures.pushed
+    swept_elements c.self.inside.order c.in-Some.span.first c.in-Some.span.end c.in_ok-elements.elements.items
+    c.deref.result.now c.deref-2.result.now c.part_with-start.result.0 c.part_with-start.result.1 c.self.inside.edges edge
+    c.in_ok-swept.swept.stays.items c.in_ok-swept.swept.moves.items c.deref-4.result.now c.extend_from_slice.new.self.items
+    c.deref-5.result.now c.write_back.new.elements.items c.in_ok-swept.swept.walked.items c.in-Some.ensures
+    c.in_ok-elements.ensures c.deref.ensures.value c.part_with-start.ensures c.deref-2.ensures.value
+    c.in_ok-swept.ensures c.deref-4.ensures.value c.in_ok-extend_from_slice.ensures.items c.deref-5.ensures.value c.write_back.ensures (joined c.overwrite.new.self) (overwritten c)
+
+kept : (c : goal.After-drop-elements-2) → ListOrderKept (joined c.overwrite.new.self) c.push-2.new.self
+kept c =
+    let edge : Edge = record { before = c.args.before; after = c.args.after; label = c.args.label } in
+    swept_kept c.self.inside.order c.in-Some.span.first c.in-Some.span.end c.in_ok-elements.elements.items
+    c.deref.result.now c.deref-2.result.now c.part_with-start.result.0 c.part_with-start.result.1 c.self.inside.edges edge
+    c.in_ok-swept.swept.stays.items c.in_ok-swept.swept.moves.items c.deref-4.result.now c.extend_from_slice.new.self.items
+    c.deref-5.result.now c.write_back.new.elements.items c.in_ok-swept.swept.walked.items c.in-Some.ensures
+    c.in_ok-elements.ensures c.deref.ensures.value c.part_with-start.ensures c.deref-2.ensures.value
+    c.in_ok-swept.ensures c.deref-4.ensures.value c.in_ok-extend_from_slice.ensures.items c.deref-5.ensures.value c.write_back.ensures (joined c.overwrite.new.self) (overwritten c)
+    c.deref-3.result.now c.push-2.new.self c.is_marked.result c.deref-3.ensures.value c.is_marked.ensures
+    c.if-is_marked.false c.in_ok-push-2.ensures.pushed c.self.invariant
 
 pub invariant_of-self-2 : goal.invariant_of-self-2
-invariant_of-self-2 c = (moved c).0
+invariant_of-self-2 c = kept c
 
 pub returns-clause-elements : goal.returns-clause-elements
 returns-clause-elements c =
-    subst (λ xs. IsPermutation xs c.overwrite.new.self) (ap (λ (l : ListOrder). l.order) c.self.view_is) (moved c).1
+    subst (λ xs. IsPermutation xs (joined c.overwrite.new.self)) (ap (λ (l : ListOrder). l.order) c.self.view_is)
+    (moved c)
 
 pub returns-clause-extends : goal.returns-clause-extends
-returns-clause-extends c = (moved c).0.extends
+returns-clause-extends c = (kept c).extends

@@ -1,27 +1,27 @@
-use Rattle.std.proofs.Common.{refl, sym, ap, subst}
+use Rattle.std.proofs.Common.{Some, None, sym, ap, subst}
 use Rattle.std.specs.Prelude.{Contains}
-use Rattle.ra_list_order.specs.ListOrder.{ListOrder, IsPut}
-use Rattle.ra_list_order.proofs.Puts.{kept_put, put_first, put_second}
+use Rattle.ra_list_order.specs.Chunks.{joined}
+use Rattle.ra_list_order.specs.ListOrder.{ListOrder}
+use Rattle.ra_list_order.proofs.Puts.{kept_by_result}
 use Rattle.ra_list_order.proofs.list_order.ListOrder.put.Goals as goal
-use Rattle.ra_list_order.proofs.list_order.ListOrder.put.Goals.{in-None, in-Some}
 
-pub invariant_of-self-2 : goal.invariant_of-self-2
-invariant_of-self-2 c =
+pub invariant_of-self : goal.invariant_of-self
+invariant_of-self c =
     let same = ap (λ (l : ListOrder). l.order) c.self.view_is in
-    kept_put _ c.match-left.at c.args.element _ _ c.in_ok-insert.ensures.inserted
+    kept_by_result c.insert_behind.result (joined c.self.inside.order) (Some c.in-Some.left) None c.args.element
+    c.self.inside.edges (joined c.insert_behind.new.self) c.insert_behind.ensures.put c.insert_behind.ensures.failed
     (subst (λ xs. ¬ Contains xs c.args.element) (sym same) c.requires.new) c.self.invariant
 
-pub returns-clause-put : goal.returns-clause-put
-returns-clause-put c =
+pub invariant_of-self-in-Some-right : goal.invariant_of-self-in-Some-right
+invariant_of-self-in-Some-right c =
     let same = ap (λ (l : ListOrder). l.order) c.self.view_is in
-    let made = c.in_ok-insert.ensures.inserted in
-    elim c.match-left.branch [
-      | in-None w ↦
-          subst (λ left. IsPut c.args.self.now.order left c.args.right c.args.element c.insert.new.self)
-          (sym w.in-None.is) (put_first _ _ _ w.place_before-at.result c.match-left.at c.args.element c.args.right _
-          w.at-is same refl w.place_before-at.ensures made)
-      | in-Some w ↦
-          subst (λ left. IsPut c.args.self.now.order left c.args.right c.args.element c.insert.new.self)
-          (sym w.in-Some.is) (put_second _ _ _ w.place_of.result c.match-left.at w.in-Some.left c.args.element
-          c.args.right _ w.at-is same refl w.place_of.ensures.within w.place_of.ensures.there made)
-    ]
+    kept_by_result c.insert_before.result (joined c.self.inside.order) None (Some c.in-Some-right.right) c.args.element
+    c.self.inside.edges (joined c.insert_before.new.self) c.insert_before.ensures.put c.insert_before.ensures.failed
+    (subst (λ xs. ¬ Contains xs c.args.element) (sym same) c.requires.new) c.self.invariant
+
+pub invariant_of-self-in-None-right : goal.invariant_of-self-in-None-right
+invariant_of-self-in-None-right c =
+    let same = ap (λ (l : ListOrder). l.order) c.self.view_is in
+    kept_by_result c.insert_first.result (joined c.self.inside.order) None None c.args.element
+    c.self.inside.edges (joined c.insert_first.new.self) c.insert_first.ensures.put c.insert_first.ensures.failed
+    (subst (λ xs. ¬ Contains xs c.args.element) (sym same) c.requires.new) c.self.invariant

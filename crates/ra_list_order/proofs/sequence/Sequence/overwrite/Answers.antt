@@ -1,35 +1,51 @@
-use Rattle.std.proofs.Common.{◌+◌, ◌≤◌, ◌++◌, ◌∙◌, sym, subst, length, take, drop}
+use Rattle.std.proofs.Common.{◌≤◌, ◌∙◌, sym, ap, subst, length}
 use Rattle.std.specs.BTreeMap.{get}
 use Rattle.std.specs.Ordering.{nat_cmp}
+use Rattle.std.specs.List.{between}
 use Rattle.std.specs.List.Sorted.{IsPermutation}
-use Rattle.ra_list_order.specs.Edges.{EachOnce}
-use Rattle.ra_list_order.specs.Sequence.{ArePlaced, HaveNumbers}
-use Rattle.ra_list_order.proofs.Sequences.{parts_numbered, placed_moved}
+use Rattle.std.proofs.lemmas.List.Sorted.{length_permutation}
+use Rattle.ra_list_order.specs.Chunks.{joined, AreGrouped}
+use Rattle.ra_list_order.proofs.Spans.{read_once, read_known, read_grouped}
 use Rattle.ra_list_order.proofs.sequence.Sequence.overwrite.Goals as goal
 
-pub place-requires-clause-known : goal.place-requires-clause-known
-place-requires-clause-known c =
-    let parts = c.args.parts.now in
-    let first = c.args.first in
-    let same = sym c.self.view_is in
-    subst (λ n. HaveNumbers (get nat_cmp c.self.inside.numbers) parts n) (sym c.self.inside.places.ok.0)
-    (parts_numbered (get nat_cmp c.self.inside.numbers) c.self.inside.order.items c.self.inside.places.items
-    c.self.inside.places.items first parts c.self.invariant
-    (subst EachOnce same c.requires.once)
-    (subst (λ xs. first + length parts ≤ length xs) same c.requires.within)
-    (subst (λ xs. IsPermutation xs (take first xs ++ (parts ++ drop (length parts) (drop first xs)))) same
-    c.requires.same))
+pub refill-requires : goal.refill-requires
+refill-requires c =
+    let i = c.args.span.first in
+    let j = c.args.span.end in
+    length_permutation (joined (between i j c.args.self.now)) c.args.elements.now c.requires.same
+    ∙ ap (λ cs. length (joined (between i j cs))) (sym (c.deref_mut.ensures.value ∙ c.self.view_is))
+
+pub move_to_chunks-requires-clause-once : goal.move_to_chunks-requires-clause-once
+move_to_chunks-requires-clause-once c =
+    let i = c.args.span.first in
+    let j = c.args.span.end in
+    read_once (get nat_cmp c.self.inside.groups) c.self.inside.chunks.items c.deref_mut.result.now c.refill.new.chunks
+    c.deref.result.now c.self.inside.places.items i j c.self.inside.chunks.len c.args.elements.now c.requires.ordered
+    (subst (λ cs. j ≤ length cs) (sym c.self.view_is) c.requires.within) c.self.invariant
+    (subst (λ cs. IsPermutation (joined (between i j cs)) c.args.elements.now) (sym c.self.view_is) c.requires.same)
+    c.deref_mut.ensures.value c.self.inside.chunks.ok.0 c.refill.ensures.elements c.refill.ensures.groups
+    c.deref.ensures.value
+
+pub move_to_chunks-requires-clause-known : goal.move_to_chunks-requires-clause-known
+move_to_chunks-requires-clause-known c =
+    let i = c.args.span.first in
+    let j = c.args.span.end in
+    read_known (get nat_cmp c.self.inside.groups) c.self.inside.chunks.items c.deref_mut.result.now c.refill.new.chunks
+    c.deref.result.now c.self.inside.places.items i j c.self.inside.chunks.len c.args.elements.now c.requires.ordered
+    (subst (λ cs. j ≤ length cs) (sym c.self.view_is) c.requires.within) c.self.invariant
+    (subst (λ cs. IsPermutation (joined (between i j cs)) c.args.elements.now) (sym c.self.view_is) c.requires.same)
+    c.deref_mut.ensures.value c.self.inside.chunks.ok.0 c.refill.ensures.elements c.refill.ensures.groups
+    c.deref.ensures.value
 
 pub invariant_of-self : goal.invariant_of-self
 invariant_of-self c =
-    let parts = c.args.parts.now in
-    let first = c.args.first in
-    let same = sym c.self.view_is in
-    subst (λ xs. ArePlaced (get nat_cmp c.self.inside.numbers) xs c.place.new.places.items) (sym c.overwrite.ensures)
-    (placed_moved (get nat_cmp c.self.inside.numbers) c.self.inside.order.items c.self.inside.places.items
-    c.place.new.places.items first parts c.self.invariant
-    (subst EachOnce same c.requires.once)
-    (subst (λ xs. first + length parts ≤ length xs) same c.requires.within)
-    (subst (λ xs. IsPermutation xs (take first xs ++ (parts ++ drop (length parts) (drop first xs)))) same
-    c.requires.same)
-    (sym c.place.new.places.ok.0 ∙ c.place.ensures.len ∙ c.self.inside.places.ok.0) c.place.ensures.placed)
+    let i = c.args.span.first in
+    let j = c.args.span.end in
+    subst (λ cs. AreGrouped (get nat_cmp c.move_to_chunks.new.groups) cs c.self.inside.places.items)
+    c.deref.ensures.value
+    (read_grouped (get nat_cmp c.self.inside.groups) c.self.inside.chunks.items c.deref_mut.result.now
+    c.refill.new.chunks c.deref.result.now c.self.inside.places.items i j c.self.inside.chunks.len c.args.elements.now
+    c.requires.ordered (subst (λ cs. j ≤ length cs) (sym c.self.view_is) c.requires.within) c.self.invariant
+    (subst (λ cs. IsPermutation (joined (between i j cs)) c.args.elements.now) (sym c.self.view_is) c.requires.same)
+    c.deref_mut.ensures.value c.self.inside.chunks.ok.0 c.refill.ensures.elements c.refill.ensures.groups
+    c.deref.ensures.value (get nat_cmp c.move_to_chunks.new.groups) c.move_to_chunks.ensures)

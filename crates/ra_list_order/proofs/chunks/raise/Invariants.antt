@@ -1,6 +1,6 @@
 use Rattle.std.proofs.Common.{◌≡◌, ℕ, ◌<◌, ◌≤◌, get_or}
-use Rattle.ra_list_order.specs.Sequence.{IsRaised}
-use Rattle.ra_list_order.proofs.sequence.raise.Given as goal
+use Rattle.ra_list_order.specs.Chunks.{IsRaised}
+use Rattle.ra_list_order.proofs.chunks.raise.Given as goal
 
 abbrev pub invariant-loop-place : goal.invariant-loop-place
 invariant-loop-place l = record {

@@ -1,0 +1,102 @@
+//! Lists of chunks: the elements of some, copied and overwritten, and the split of one.
+ghost use Rattle.std.specs.Prelude.{◌≡◌, ℕ, ◌<◌, ◌≤◌, length, vec_len, vec_capacity, get_or, IfOk};
+ghost use Rattle.std.specs.BTreeMap.{get};
+ghost use Rattle.std.specs.Ordering.{nat_cmp};
+ghost use Rattle.ra_list_order.specs.Chunks.{joined, AreGrouped, HaveSameGroups, IsRaised};
+
+use crate::chunk::Chunk;
+use crate::groups::move_to;
+use ra_labels::NoMemory;
+use std::alloc::Global;
+use std::collections::BTreeMap;
+
+/// Returns the elements of the chunks in order.
+///
+/// # Errors
+///
+/// `NoMemory` if allocation fails.
+///
+/// # Complexity
+///
+/// O(length of the result), since no chunk is empty.
+pub fn copied(alloc: Global, chunks: &[Chunk]) -> Result<Vec<u32>, NoMemory>
+    ensures { IfOk result (λ elements. elements.items ≡ joined chunks.now) }
+{
+    let mut elements = Vec::new(alloc);
+    for chunk in chunks {
+        elements.extend_from_slice(chunk.elements())?;
+    }
+    Ok(elements)
+}
+
+/// Overwrites the elements of the chunks with as many others. Does not allocate.
+///
+/// # Complexity
+///
+/// O(k) with `k` elements.
+pub fn refill(chunks: &mut [Chunk], elements: &[u32])
+    requires { length elements.now ≡ length (joined chunks.old) }
+    ensures elements { joined chunks.new ≡ elements.now }
+    ensures groups { HaveSameGroups chunks.old chunks.new }
+{
+    let mut done = 0;
+    for place in 0..chunks.len() {
+        let end = done + chunks[place].elements().len();
+        chunks[place].overwrite(&elements[done..end]);
+        done = end;
+    }
+}
+
+/// Splits the chunk at the index. The last chunk is split before its last element, since many elements are added at
+/// the end; another one in the middle.
+///
+/// # Errors
+///
+/// `NoMemory` if allocation fails; nothing is changed.
+///
+/// # Complexity
+///
+/// O(c + m log n) with `c` chunks, `n` elements and `m` that move.
+pub fn split(
+    groups: &mut BTreeMap<u32, usize>,
+    chunks: &mut Vec<Chunk>,
+    places: &mut Vec<usize>,
+    place: usize,
+) -> Result<(), NoMemory>
+    requires place { place < vec_len chunks.old }
+    requires grouped { AreGrouped (get nat_cmp groups.old) chunks.old.items places.old.items }
+    ensures grouped { AreGrouped (get nat_cmp groups.new) chunks.new.items places.new.items }
+    ensures joined { joined chunks.new.items ≡ joined chunks.old.items }
+    ensures as_many { vec_len chunks.old ≤ vec_len chunks.new }
+{
+    places.reserve(1)?;
+    chunks.reserve(1)?;
+    let at = place + 1;
+    let group = places.len();
+    let len = chunks[place].elements().len();
+    let keep = if at == chunks.len() {
+        len.saturating_sub(1)
+    } else {
+        len / 2
+    };
+    let right = chunks[place].split_off(keep, group)?;
+    move_to(groups, right.elements(), group);
+    raise(places, at);
+    places.push_reserved(at);
+    let _ = chunks.insert(at, right);
+    Ok(())
+}
+
+// Adds one to each index from this one on.
+fn raise(places: &mut Vec<usize>, at: usize)
+    ensures len { vec_len places.new ≡ vec_len places.old }
+    ensures raised { (m : ℕ) → m < vec_len places.old
+        → IsRaised at (get_or places.old.items m 0) (get_or places.new.items m 0) }
+    ensures capacity { vec_capacity places.new ≡ vec_capacity places.old }
+{
+    for place in places.iter_mut() {
+        if *place >= at {
+            *place = place.saturating_add(1);
+        }
+    }
+}
