@@ -126,7 +126,8 @@ module _ (chunks : List Chunk) (i j : ℕ) (es read read2 : List ℕ) (a b : ℕ
     same_elements =
         subst (λ xs. IsPermutation xs new_es) es_is
         (subst (λ xs. IsPermutation es xs) (sym written_is)
-        (subst (λ xs. IsPermutation xs (take a es ++ ((stays ++ moves) ++ drop b es))) (sym (split_between es a b part_is.ordered))
+        (subst (λ xs. IsPermutation xs (take a es ++ ((stays ++ moves) ++ drop b es)))
+        (sym (split_between es a b part_is.ordered))
         (moved_elements (take a es) (between a b es) (drop b es) edges edge.after stays moves walked swept)))
 
     abbrev front : List ℕ
@@ -167,7 +168,8 @@ module _ (chunks : List Chunk) (i j : ℕ) (es read read2 : List ℕ) (a b : ℕ
                 (mark_read _ _ _ _ _ _ walked_is says unmarked) part_is.has_one);
           })
 
-pub cycle_closed : (stretch : List ℕ) (edges : List Edge) (start : ℕ) (stays moves : List ℕ) (walked way cycle : List Edge)
+pub cycle_closed : (stretch : List ℕ) (edges : List Edge) (start : ℕ) (stays moves : List ℕ)
+    (walked way cycle : List Edge)
     (new : Edge)
     → IsSwept stretch edges start stays moves walked → IsChain start way new.before → All (Contains walked) way
     → new.after ≡ start → cycle ≡ insert way 0 new → IsCycle (edges ++ new ∷ []) cycle

@@ -35,7 +35,8 @@ transitive (x ∷ xs) a b c new first second = elim first [
 
 -- a chain of at least one edge leads further back
 chain_leads : (order : List ℕ) (edges : List Edge) → AreNew order → Extends order edges
-    → (cycle : List Edge) (from : ℕ) (edge : Edge) (to : ℕ) → ((e : Edge) → Contains (edge ∷ cycle) e → Contains edges e)
+    → (cycle : List Edge) (from : ℕ) (edge : Edge) (to : ℕ)
+    → ((e : Edge) → Contains (edge ∷ cycle) e → Contains edges e)
     → IsChain from (edge ∷ cycle) to → IsBefore order from to
 chain_leads order edges new extends [] from edge to among chain =
     let step = extends edge (among edge (at_head edge [] edge refl)) in

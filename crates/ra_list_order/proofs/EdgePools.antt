@@ -1,7 +1,8 @@
 -- The invariant of an edge pool: with one more edge, with one edge less, and along the edges from one element.
 use Rattle.std.proofs.Common.{◌≡◌, ℕ, ◌+◌, ◌-◌, ◌<◌, ◌≤◌, false, List, [], ◌∷◌, ◌++◌, length, get_or, take, Option, Some, None, Result, Ok, Err, BTreeMap, refl, sym, ap, ◌∙◌, subst, inl, inr, arith, append_assoc, unwrap_or}
 use Rattle.std.specs.Prelude.{Contains, OnOk, OnErr}
-use Rattle.std.specs.BTreeMap.{get, Updates}
+use Rattle.std.specs.BTreeMap.{get, is_at, Updates}
+use Rattle.std.specs.Map.{lookup}
 use Rattle.std.specs.Cmp.{Equal-is}
 use Rattle.std.specs.Ordering.{nat_cmp, is_eq}
 use Rattle.std.proofs.Math.ListN.{get_or-append}
@@ -11,7 +12,6 @@ use Rattle.std.proofs.lemmas.List.{length_push, length-take, get_or-take, append
 use Rattle.std.proofs.lemmas.List.Elements.{Contains-get_or, Contains-append_left, Contains-push, Contains-push_cases}
 use Rattle.std.proofs.lemmas.Map.Lookups.{exact_unsigned}
 use Rattle.ra_list_order.specs.declared.edge.Edge.{Edge}
-use Rattle.ra_list_order.specs.Edges.{HasEdge}
 use Rattle.ra_list_order.specs.EdgePool.{no_edge, edge_at, IsLastFrom, EdgesLinked}
 use Rattle.ra_list_order.specs.Sweep.{PushesEdgesFrom}
 use Rattle.ra_list_order.proofs.Members.{same_read}
@@ -102,7 +102,8 @@ module _ (old new : ℕ → Option ℕ) (edges : List Edge) (edge : Edge) (previ
           | inr high ↦
               let last : length edges ≡ k = omega (arith, long, below, high) in
               subst (λ i. IsLastFrom (edge_at more i).before more i (get_or links i 0)) last
-              (subst (λ (e : Edge). IsLastFrom e.before more (length edges) (get_or links (length edges) 0)) (sym at_end)
+              (subst (λ (e : Edge). IsLastFrom e.before more (length edges) (get_or links (length edges) 0))
+              (sym at_end)
               (subst (λ n. IsLastFrom edge.before more (length edges) n)
               (sym (ap (λ i. get_or links i 0) (sym linked.as_many) ∙ get_or-append_seam previous link [] 0))
               (last_same edge.before edges more (length edges) link agree (linked.lasts edge.before))))
@@ -275,7 +276,20 @@ pool_pushed m n edges read new_edges edge previous read_previous new_previous nu
     (sym (made_previous ∙ ap (λ ls. ls ++ link ∷ []) reads_previous
     ∙ ap (λ l. previous ++ l ∷ []) (link_is ∙ ap (λ v. unwrap_or v 0) value_is))) pushed)
 
-pub pool_popped : {E : Type 0} (m n : BTreeMap ℕ ℕ) (r : Result (Option ℕ) E) (edges new_edges : List Edge) (edge : Edge)
+pub pool_unchanged : (m n : BTreeMap ℕ ℕ) (edges new_edges : List Edge) (previous new_previous : List ℕ)
+    → EdgesLinked (get nat_cmp m) edges previous → n.entries ≡ m.entries → new_edges ≡ edges → new_previous ≡ previous
+    → EdgesLinked (get nat_cmp n) new_edges new_previous
+pool_unchanged m n edges new_edges previous new_previous linked same edges_is previous_is =
+    subst (λ es. EdgesLinked (get nat_cmp n) es new_previous) (sym edges_is)
+    (subst (λ ls. EdgesLinked (get nat_cmp n) edges ls) (sym previous_is) (record {
+      lasts = λ x. subst (λ v. IsLastFrom x edges (length edges) (unwrap_or v 0))
+          (sym (ap (lookup (is_at (nat_cmp x))) same)) (linked.lasts x);
+      links = linked.links;
+      as_many = linked.as_many;
+    }))
+
+pub pool_popped : {E : Type 0} (m n : BTreeMap ℕ ℕ) (r : Result (Option ℕ) E) (edges new_edges : List Edge)
+    (edge : Edge)
     (previous new_previous : List ℕ) (link : ℕ) (value : Option ℕ)
     → EdgesLinked (get nat_cmp m) edges previous → 0 < length edges
     → edge ≡ edge_at edges (length edges - 1) → value ≡ Some (get_or previous (length previous - 1) 0)
@@ -289,7 +303,8 @@ pool_popped m n r edges new_edges edge previous new_previous link value linked s
     let done = replaced r (get nat_cmp m edge.before) (Updates nat_cmp m n edge.before (Some link)) absent
     (subst (λ (e : Edge). ¬ (get nat_cmp m e.before ≡ None)) (sym edge_is)
     (last_there (get nat_cmp m) edges previous linked some)) updates in
-    let set = subst (λ (e : Edge). IsPointed (get nat_cmp m) (get nat_cmp n) e.before (get_or previous (length edges - 1) 0))
+    let set = subst (λ (e : Edge). IsPointed (get nat_cmp m) (get nat_cmp n) e.before (get_or previous
+    (length edges - 1) 0))
     edge_is (subst (λ v. IsPointed (get nat_cmp m) (get nat_cmp n) edge.before v)
     (link_is ∙ ap (λ v. unwrap_or v 0) value_is ∙ ap (λ k. get_or previous k 0) many)
     (pointed m n edge.before link done)) in
@@ -314,71 +329,3 @@ pub walking_falls : (old : ℕ → Option ℕ) (edges : List Edge) (previous : L
 walking_falls old edges previous x walked now at at_next linked is some next =
     let low = (linked.links (at - 1) (walking_within x edges walked now at is some)).within in
     omega (arith, low, next, some)
-
--- holds if `at` is the number of the next edge from x, and no edge that was passed is from x to y
-pub record IsSeeking (x y : ℕ) (edges : List Edge) (at : ℕ) : Type 0 where
-  pub m : ℕ
-  pub within : m ≤ length edges
-  pub last : IsLastFrom x edges m at
-  pub passed : (k : ℕ) → m ≤ k → k < length edges → (edge_at edges k).before ≡ x → ¬ ((edge_at edges k).after ≡ y)
-
-pub seeking_first : (old : ℕ → Option ℕ) (edges : List Edge) (previous : List ℕ) (x y at : ℕ)
-    → EdgesLinked old edges previous → at ≡ unwrap_or (old x) 0 → IsSeeking x y edges at
-seeking_first old edges previous x y at linked is = record {
-  m = length edges;
-  within = omega arith;
-  last = subst (λ n. IsLastFrom x edges (length edges) n) (sym is) (linked.lasts x);
-  passed = λ k from below. absurd (omega (arith, from, below));
-}
-
-pub seeking_within : (x y : ℕ) (edges : List Edge) (at : ℕ) → IsSeeking x y edges at → 0 < at → at - 1 < length edges
-seeking_within x y edges at is some =
-    let low = is.last.within in
-    let high = is.within in
-    omega (arith, low, high, some)
-
-pub seeking_next : (old : ℕ → Option ℕ) (edges : List Edge) (previous : List ℕ) (x y at at_next : ℕ)
-    → EdgesLinked old edges previous → IsSeeking x y edges at → 0 < at → ¬ ((edge_at edges (at - 1)).after ≡ y)
-    → at_next ≡ get_or previous (at - 1) 0 → IsSeeking x y edges at_next × (at_next < at)
-seeking_next old edges previous x y at at_next linked is some other next_is =
-    let low = is.last.within in
-    let here = seeking_within x y edges at is some in
-    let link = linked.links (at - 1) here in
-    let fewer = link.within in (
-      record {
-        m = at - 1;
-        within = omega (arith, here);
-        last = subst (λ n. IsLastFrom x edges (at - 1) n) (sym next_is)
-            (subst (λ y. IsLastFrom y edges (at - 1) (get_or previous (at - 1) 0)) (is.last.begins some) link);
-        passed = λ k from below begins. elim (cases_lt k is.m) [
-          | inl less ↦ elim (cases_eq k (at - 1)) [
-            | inl same ↦ λ ends. other (sym (ap (λ i. (edge_at edges i).after) same) ∙ ends)
-            | inr apart ↦ absurd (is.last.others k (omega (arith, from, apart, some)) less begins)
-          ]
-          | inr more ↦ is.passed k (omega (arith, more)) below begins
-        ];
-      },
-      omega (arith, fewer, next_is, some),
-    )
-
-pub seeking_found : (x y : ℕ) (edges : List Edge) (at : ℕ) → IsSeeking x y edges at → 0 < at
-    → (edge_at edges (at - 1)).after ≡ y → HasEdge edges x y
-seeking_found x y edges at is some ends = (
-  edge_at edges (at - 1),
-  Contains-get_or edges (at - 1) no_edge (seeking_within x y edges at is some),
-  is.last.begins some,
-  ends,
-)
-
-pub seeking_none : (x y : ℕ) (edges : List Edge) (at : ℕ) → IsSeeking x y edges at → at ≤ 0 → ¬ HasEdge edges x y
-seeking_none x y edges at is none has =
-    let edge = has.0 in
-    let k = has.1.0 in
-    let within = has.1.1 in
-    let read : edge_at edges k ≡ edge = same_read edges k no_edge edge within ∙ has.1.2 in
-    let begins : (edge_at edges k).before ≡ x = ap (λ (e : Edge). e.before) read ∙ has.2 in
-    let ends : (edge_at edges k).after ≡ y = ap (λ (e : Edge). e.after) read ∙ has.3 in
-    elim (cases_lt k is.m) [
-      | inl less ↦ is.last.others k (omega (arith, none)) less begins
-      | inr more ↦ is.passed k (omega (arith, more)) within begins ends
-    ]

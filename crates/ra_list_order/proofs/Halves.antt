@@ -102,7 +102,8 @@ module _ (chunks : List Chunk) (at : ℕ) (left right : Chunk) (there : at < len
       many_places = let size = length_push raised (at + 1) in omega (arith, size, long)
 
       -- the index of an old group
-      place_of : (g k j : ℕ) → g < length places → get_or places g 0 ≡ k → ((k < at + 1) × (j ≡ k)) ⊎ ((at < k) × (k < length chunks) × (j ≡ k + 1))
+      place_of : (g k j : ℕ) → g < length places → get_or places g 0 ≡ k
+          → ((k < at + 1) × (j ≡ k)) ⊎ ((at < k) × (k < length chunks) × (j ≡ k + 1))
           → get_or places_now g 0 ≡ j
       place_of g k j low is where_to =
           get_or_append_left raised ((at + 1) ∷ []) 0 g (omega (arith, low, long)) ∙ elim where_to [
@@ -153,7 +154,8 @@ module _ (chunks : List Chunk) (at : ℕ) (left right : Chunk) (there : at < len
       -- the elements of another chunk did not move
       stays : (j x : ℕ) → ¬ (j ≡ at) → j < length chunks → Contains (chunk_at chunks j).elements x → new x ≡ old x
       stays j x other low among =
-          moved.others x (λ right_has. other (chunks_apart chunks j at x grouped.once low there among (right_in x right_has)))
+          moved.others x (λ right_has. other (chunks_apart chunks j at x grouped.once low there among
+          (right_in x right_has)))
 
       found_as : (k x : ℕ) (chunk : Chunk) → chunk_at now k ≡ chunk → new x ≡ Some chunk.group
           → new x ≡ Some (chunk_at now k).group
@@ -193,7 +195,8 @@ module _ (chunks : List Chunk) (at : ℕ) (left right : Chunk) (there : at < len
       }
 
 -- the same as the code reads it
-pub chosen : {A : Type 0} (test : Bool) (items xs ys : List A) → test ≡ true → items ≡ (if test then xs else ys) → items ≡ xs
+pub chosen : {A : Type 0} (test : Bool) (items xs ys : List A) → test ≡ true → items ≡ (if test then xs else ys)
+    → items ≡ xs
 chosen true items xs ys is made = made
 chosen false items xs ys is made = absurd (false≢true is)
 
@@ -213,13 +216,15 @@ module _ (group_of : ℕ → Option ℕ) (chunks read_chunks : List Chunk) (plac
   split_failed same =
       subst (λ ps. AreGrouped group_of (set read_chunks k left) ps) (sym places_is)
       (subst (λ cs. AreGrouped group_of (set cs k left) places) (sym chunks_is)
-      (mid_grouped chunks k (chunk_at chunks k) left there (same_read chunks k no_chunk (chunk_at chunks k) there) group_is
+      (mid_grouped chunks k (chunk_at chunks k) left there
+      (same_read chunks k no_chunk (chunk_at chunks k) there) group_is
       (same ∙ ap (λ (c : Chunk). c.elements) read_is) group_of places grouped))
 
   pub split_failed_joined : left.elements ≡ read.elements → joined (set read_chunks k left) ≡ joined chunks
   split_failed_joined same =
       ap (λ cs. joined (set cs k left)) chunks_is
-      ∙ mid_joined chunks k (chunk_at chunks k) left there (same_read chunks k no_chunk (chunk_at chunks k) there) group_is (same ∙ ap (λ (c : Chunk). c.elements) read_is)
+      ∙ mid_joined chunks k (chunk_at chunks k) left there
+      (same_read chunks k no_chunk (chunk_at chunks k) there) group_is (same ∙ ap (λ (c : Chunk). c.elements) read_is)
 
   module _ (halves : left.elements ++ right.elements ≡ read.elements) where
     halves_is : left.elements ++ right.elements ≡ (chunk_at chunks k).elements
@@ -254,4 +259,5 @@ module _ (group_of : ℕ → Option ℕ) (chunks read_chunks : List Chunk) (plac
           (grouped_split chunks k left right there halves_is group_of new places raised grouped group_is
           (right_is ∙ next) (subst (λ n. AreMovedTo right.elements n group_of new) next moved)
           (long ∙ ap length places_is) few
-          (subst (λ ps. (m : ℕ) → m < length ps → IsRaised (k + 1) (get_or ps m 0) (get_or raised m 0)) places_is each)))
+          (subst (λ ps. (m : ℕ) → m < length ps → IsRaised (k + 1) (get_or ps m 0)
+          (get_or raised m 0)) places_is each)))

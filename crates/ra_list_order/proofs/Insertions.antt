@@ -23,7 +23,8 @@ in_inserted xs i x y there =
     (IsPermutation-sym (x ∷ xs) (insert xs i x) (IsPermutation-insert xs i x)) there)
 
 has_inserted : (xs : List ℕ) (i x : ℕ) → Contains (insert xs i x) x
-has_inserted xs i x = Contains-permutation (x ∷ xs) (insert xs i x) x (IsPermutation-insert xs i x) (at_head x xs x refl)
+has_inserted xs i x = Contains-permutation (x ∷ xs) (insert xs i x) x (IsPermutation-insert xs i x)
+    (at_head x xs x refl)
 
 still_there : (xs : List ℕ) (i x y : ℕ) → Contains xs y → Contains (insert xs i x) y
 still_there xs i x y there =

@@ -43,7 +43,8 @@ joined_between chunks i j less =
 pub in_joined : (chunks : List Chunk) (k x : ℕ) → k < length chunks → Contains (chunk_at chunks k).elements x
     → Contains (joined chunks) x
 in_joined chunks k x there among =
-    in_piece (λ (chunk : Chunk). chunk.elements) chunks (chunk_at chunks k) x (Contains-get_or chunks k no_chunk there) among
+    in_piece (λ (chunk : Chunk). chunk.elements) chunks (chunk_at chunks k) x
+    (Contains-get_or chunks k no_chunk there) among
 
 pub from_joined : (chunks : List Chunk) (x : ℕ) → Contains (joined chunks) x
     → (k : ℕ) × (k < length chunks) × Contains (chunk_at chunks k).elements x
@@ -103,7 +104,8 @@ chunks_apart (chunk ∷ chunks) zero (suc k) x once there there2 left right =
 chunks_apart (chunk ∷ chunks) (suc j) zero x once there there2 left right =
     absurd (once_apart chunk.elements (joined chunks) x once right (in_joined chunks j x (omega arith) left))
 chunks_apart (chunk ∷ chunks) (suc j) (suc k) x once there there2 left right =
-    ap suc (chunks_apart chunks j k x (once_right chunk.elements (joined chunks) once) (omega arith) (omega arith) left right)
+    ap suc (chunks_apart chunks j k x (once_right chunk.elements (joined chunks) once) (omega arith)
+    (omega arith) left right)
 
 -- the elements of a range of chunks are once in it
 pub once_between : (chunks : List Chunk) (i j : ℕ) → i ≤ j → EachOnce (joined chunks)

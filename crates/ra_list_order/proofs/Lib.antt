@@ -1,6 +1,7 @@
 pub mod Adds
 pub mod Befores
 pub mod Cycles
+pub mod EdgeCounts
 pub mod EdgePools
 pub mod Ends
 pub mod Halves

@@ -145,7 +145,8 @@ module _ (old now : List Chunk) (elements : List ℕ) (k done : ℕ) (there : k 
 
   pub end_within : done + length (chunk_at old k).elements ≤ length elements
   end_within =
-      let whole = ap length (ap joined (sym (take-append-drop (k + 1) old)) ∙ joined_append (take (k + 1) old) (drop (k + 1) old)) in
+      let whole = ap length (ap joined (sym (take-append-drop (k + 1) old))
+      ∙ joined_append (take (k + 1) old) (drop (k + 1) old)) in
       let sum = length-append (joined (take (k + 1) old)) (joined (drop (k + 1) old)) in
       let part = end_is in
       omega (arith, whole, sum, part, all)
@@ -157,7 +158,8 @@ module _ (old now : List Chunk) (elements : List ℕ) (k done : ℕ) (there : k 
   read_chunk read xs is =
       is ∙ ap (λ (c : Chunk). c.elements) (same_read now k read no_chunk now_there ∙ same_chunk)
 
-  pub read_within : (read : Chunk) (xs : List ℕ) → xs ≡ (get_or now k read).elements → done + length xs ≤ length elements
+  pub read_within : (read : Chunk) (xs : List ℕ) → xs ≡ (get_or now k read).elements
+      → done + length xs ≤ length elements
   read_within read xs is =
       let same = ap length (read_chunk read xs is) in
       let low = end_within in

@@ -29,13 +29,15 @@ pub once_put : (order : List ℕ) (at element : ℕ) → ¬ Contains order eleme
     → EachOnce (insert order at element)
 once_put order at element new once x =
     let p : ℕ → ℕ = λ y. cond (y == x) 1 0 in
-    let same = sum_by-IsPermutation p (element ∷ order) (insert order at element) (IsPermutation-insert order at element) in
+    let same = sum_by-IsPermutation p (element ∷ order) (insert order at element)
+    (IsPermutation-insert order at element) in
     let split = sum_by-cons p element order in
     let low = once x in
     elim (cases_Bool (element == x)) [
       | inl is ↦
           let one : p element ≡ 1 = cond-true (element == x) 1 0 is in
-          let none = not_counted order x (λ there. new (subst (λ y. Contains order y) (sym (eqb-true element x is)) there)) in
+          let none = not_counted order x (λ there. new (subst (λ y. Contains order y) (sym
+          (eqb-true element x is)) there)) in
           omega (arith, same, split, one, none)
       | inr other ↦
           let none : p element ≡ 0 = cond-false (element == x) 1 0 other in

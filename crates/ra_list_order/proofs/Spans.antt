@@ -81,7 +81,8 @@ module _ (chunks filled : List Chunk) (i j : ℕ) (less : i ≤ j) (within : j �
   pub moved_now : IsPermutation (joined chunks) (joined now)
   moved_now =
       subst (λ xs. IsPermutation xs (joined now)) (sym (joined_between chunks i j less))
-      (subst (λ xs. IsPermutation (joined (take i chunks) ++ (joined (between i j chunks) ++ joined (drop j chunks))) xs)
+      (subst (λ xs. IsPermutation (joined (take i chunks) ++ (joined (between i j chunks)
+      ++ joined (drop j chunks))) xs)
       (sym joined_now)
       (IsPermutation-append_right (joined (take i chunks)) (joined (between i j chunks) ++ joined (drop j chunks))
       (elements ++ joined (drop j chunks))
@@ -204,8 +205,11 @@ module _ (chunks filled : List Chunk) (i j : ℕ) (less : i ≤ j) (within : j �
       placed = λ k there.
           let whole = now_long in
           let low : k < length chunks = omega (arith, there, whole) in
-          let q = grouped.placed k low in
-          (subst (λ g. g < length places) (sym (group_at k low)) q.0, ap (λ g. get_or places g 0) (group_at k low) ∙ q.1);
+          let q = grouped.placed k low in (
+            subst (λ g. g < length places) (sym (group_at k low)) q.0,
+            ap (λ g. get_or places g 0) (group_at k low)
+                ∙ q.1,
+          );
       found = λ k x there among. let whole = now_long in found_now k x (omega (arith, there, whole)) among;
       known = known_now;
     }
@@ -216,11 +220,13 @@ pub before_by_chunks : (chunks : List Chunk) (j k a b : ℕ) → j < k → k < l
 before_by_chunks chunks j k a b less there left right =
     let low : j < length chunks = omega (arith, less, there) in
     let last : (joined chunks ≡ joined (take (j + 1) chunks) ++ joined (drop (j + 1) chunks)) = split_joined in
-    subst (λ xs. IsBefore xs a b) (sym last) (before_across (joined (take (j + 1) chunks)) (joined (drop (j + 1) chunks)) a b
+    subst (λ xs. IsBefore xs a b) (sym last) (before_across (joined (take (j + 1) chunks))
+    (joined (drop (j + 1) chunks)) a b
     (in_take low) in_drop)
   where
     split_joined : joined chunks ≡ joined (take (j + 1) chunks) ++ joined (drop (j + 1) chunks)
-    split_joined = ap joined (sym (take-append-drop (j + 1) chunks)) ∙ joined_append (take (j + 1) chunks) (drop (j + 1) chunks)
+    split_joined = ap joined (sym (take-append-drop (j + 1) chunks))
+        ∙ joined_append (take (j + 1) chunks) (drop (j + 1) chunks)
 
     in_take : j < length chunks → Contains (joined (take (j + 1) chunks)) a
     in_take low =
@@ -251,7 +257,8 @@ pub span_is : (chunks : List Chunk) (first last one other : ℕ) → first ≤ l
 span_is chunks first last one other less there has_one has_other = record {
   ordered = omega (arith, less);
   within = omega (arith, there);
-  has_one = in_range chunks first (last + 1) first one (omega arith) (omega (arith, less)) (omega (arith, there)) has_one;
+  has_one = in_range chunks first (last + 1) first one (omega arith) (omega (arith, less))
+      (omega (arith, there)) has_one;
   has_other = in_range chunks first (last + 1) last other less (omega arith) (omega (arith, there)) has_other;
 }
 
@@ -374,7 +381,8 @@ module _ (old : ℕ → Option ℕ) (chunks read filled now2 : List Chunk) (plac
     (less : i ≤ j) (within : j ≤ length chunks) (grouped : AreGrouped old chunks places)
     (same : IsPermutation (joined (between i j chunks)) elements) (reads : read ≡ chunks) (long : len ≡ length chunks)
     (joins : joined filled ≡ elements) (groups : HaveSameGroups (between i j read) filled)
-    (made : now2 ≡ take len (put_mid i (j - i) read filled ++ drop (length (put_mid i (j - i) read filled)) chunks)) where
+    (made : now2 ≡ take len (put_mid i (j - i) read filled
+    ++ drop (length (put_mid i (j - i) read filled)) chunks)) where
   groups_is : HaveSameGroups (between i j chunks) filled
   groups_is = subst (λ cs. HaveSameGroups (between i j cs) filled) reads groups
 

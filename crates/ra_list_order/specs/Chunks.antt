@@ -56,7 +56,8 @@ pub record AreMovedToChunks (chunks : List Chunk) (old new : ℕ → Option ℕ)
 -- holds if the element was inserted at this position of the chunk at this index
 abbrev pub IsInsertedAt : List Chunk → ℕ → ℕ → ℕ → List Chunk → Type 0
 IsInsertedAt old place position element new = joined new
-    ≡ joined (take place old) ++ (insert (chunk_at old place).elements position element ++ joined (drop (place + 1) old))
+    ≡ joined (take place old)
+    ++ (insert (chunk_at old place).elements position element ++ joined (drop (place + 1) old))
 
 -- a range of chunks that has two elements
 pub record IsSpan (chunks : List Chunk) (one other first end : ℕ) : Type 0 where

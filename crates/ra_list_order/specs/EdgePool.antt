@@ -1,5 +1,7 @@
--- Edges that are linked by the element where they begin.
-use Rattle.std.specs.Prelude.{◌≡◌, ℕ, ◌-◌, ◌<◌, ◌≤◌, List, length, get_or, Option, unwrap_or}
+-- Edges that are linked by the element where they begin, and counted by the elements at both ends.
+use Rattle.std.specs.Prelude.{◌≡◌, ℕ, ◌-◌, ◌<◌, ◌≤◌, ◌==◌, ◌&&◌, Bool, List, length, get_or, count_by, Option, unwrap_or}
+use Rattle.std.specs.Ordering.{nat_cmp, ordering_then}
+use Rattle.std.specs.declared.cmp.Ordering.{Ordering}
 use Rattle.ra_list_order.specs.declared.edge.Edge.{Edge}
 
 abbrev pub no_edge : Edge
@@ -20,3 +22,21 @@ pub record EdgesLinked (last : ℕ → Option ℕ) (edges : List Edge) (previous
   pub lasts : (x : ℕ) → IsLastFrom x edges (length edges) (unwrap_or (last x) 0)
   pub links : (k : ℕ) → k < length edges → IsLastFrom (edge_at edges k).before edges k (get_or previous k 0)
   pub as_many : length previous ≡ length edges
+
+-- `true` if the edge is from a to b
+abbrev pub is_from_to : ℕ → ℕ → Edge → Bool
+is_from_to a b edge = (edge.before == a) && (edge.after == b)
+
+-- the order of pairs in a sorted map
+abbrev pub pair_cmp : ℕ × ℕ → ℕ × ℕ → Ordering
+pair_cmp x y = ordering_then (nat_cmp x.0 y.0) (nat_cmp x.1 y.1)
+
+-- the representation invariant of the counts: the number of edges from the one element of each pair to the other one
+abbrev pub AreCounted : (ℕ × ℕ → Option ℕ) → List Edge → Type 0
+AreCounted count edges = (a b : ℕ) → unwrap_or (count (a, b)) 0 ≡ count_by (is_from_to a b) edges
+
+-- the representation invariant of a pool
+pub record EdgePoolKept (last : ℕ → Option ℕ) (count : ℕ × ℕ → Option ℕ) (edges : List Edge)
+    (previous : List ℕ) : Type 0 where
+  pub linked : EdgesLinked last edges previous
+  pub counted : AreCounted count edges

@@ -1,6 +1,8 @@
-//! The edges in the order in which they were added, linked by the element where they begin.
-ghost use Rattle.std.specs.Prelude.{◌≡◌, ◌-◌, ◌++◌, ◌∷◌, [], length, take, IsTrue, ◌↔◌, OnOk, OnErr};
+//! The edges in the order in which they were added, linked by the element where they begin, and counted by their ends.
+ghost use Rattle.std.specs.Prelude.{◌≡◌, ◌-◌, ◌++◌, ◌∷◌, [], length, take, IsTrue, ◌↔◌, OnOk, OnErr, unwrap_or};
+ghost use Rattle.std.specs.BTreeMap.{get};
 ghost use Rattle.ra_list_order.specs.declared.edge.Edge.{Edge};
+ghost use Rattle.ra_list_order.specs.EdgePool.{pair_cmp};
 ghost use Rattle.ra_list_order.specs.Edges.{HasEdge};
 ghost use Rattle.ra_list_order.specs.Sweep.{PushesEdgesFrom};
 
@@ -10,11 +12,14 @@ use std::alloc::Global;
 use std::collections::BTreeMap;
 use std::marker::Model;
 
-/// Edges in the order in which they were added. The edges from one element are found without a walk along the others.
+/// Edges in the order in which they were added. The edges from one element are found without a walk along the others,
+/// and whether one leads from an element to another without a walk at all.
 #[derive(Drop)]
 pub struct EdgePool {
     /// For each element where an edge begins, the number of the last one: its index plus one.
     lasts: BTreeMap<u32, usize>,
+    /// For each pair of elements, the number of edges from the first one to the second one.
+    counts: BTreeMap<(u32, u32), usize>,
     /// The edges.
     edges: Vec<Edge>,
     /// For each edge, the number of the previous one from the same element, or 0.
@@ -26,13 +31,14 @@ impl Model for EdgePool {
     ghost use Rattle.ra_list_order.specs.declared.edge.Edge.{Edge};
     ghost use Rattle.std.specs.Ordering.{nat_cmp};
     ghost use Rattle.std.specs.BTreeMap.{get};
-    ghost use Rattle.ra_list_order.specs.EdgePool.{EdgesLinked};
+    ghost use Rattle.ra_list_order.specs.EdgePool.{pair_cmp, EdgePoolKept};
 
     ghost Value = { List Edge };
 
     ghost view = { λ a. a.edges.items };
 
-    ghost invariant = { λ a. EdgesLinked (get nat_cmp a.lasts) a.edges.items a.links.items };
+    ghost invariant = { λ a.
+        EdgePoolKept (get nat_cmp a.lasts) (get pair_cmp a.counts) a.edges.items a.links.items };
 }
 
 impl EdgePool {
@@ -42,6 +48,7 @@ impl EdgePool {
     {
         EdgePool {
             lasts: BTreeMap::new(alloc),
+            counts: BTreeMap::new(alloc),
             edges: Vec::new(alloc),
             links: Vec::new(alloc),
         }
@@ -62,8 +69,12 @@ impl EdgePool {
     {
         self.edges.reserve(1)?;
         self.links.reserve(1)?;
+        let pair = (edge.before, edge.after);
+        let count = count_of(&self.counts, edge.before, edge.after);
+        self.counts.insert(pair, count)?;
         let number = self.edges.len() + 1;
         let link = self.lasts.insert(edge.before, number)?;
+        let _ = self.counts.insert(pair, count + 1);
         self.links.push_reserved(link.unwrap_or(0));
         self.edges.push_reserved(edge);
         Ok(())
@@ -78,6 +89,8 @@ impl EdgePool {
         };
         let link = self.links.pop().unwrap_or(0);
         let _ = self.lasts.insert(edge.before, link);
+        let count = count_of(&self.counts, edge.before, edge.after);
+        let _ = self.counts.insert((edge.before, edge.after), count - 1);
     }
 
     /// Removes all edges except the given number of earliest ones.
@@ -118,21 +131,22 @@ impl EdgePool {
         }
         Ok(())
     }
+
     /// Returns `true` if the pool has an edge from one element to another.
     ///
     /// # Complexity
     ///
-    /// O(number of edges from `before`), and O(log n) with `n` edges to find the last one.
+    /// O(log n) with `n` edges.
     pub fn contains(&self, before: u32, after: u32) -> bool
         ensures { IsTrue result ↔ HasEdge self.now before after }
     {
-        let mut at = self.lasts.get(&before).copied().unwrap_or(0);
-        while at > 0 {
-            if self.edges[at - 1].after == after {
-                return true;
-            }
-            at = self.links[at - 1];
-        }
-        false
+        count_of(&self.counts, before, after) > 0
     }
+}
+
+// Returns the count under a pair.
+fn count_of(counts: &BTreeMap<(u32, u32), usize>, before: u32, after: u32) -> usize
+    ensures { result ≡ unwrap_or (get pair_cmp counts.now (before, after)) 0 }
+{
+    counts.get(&(before, after)).copied().unwrap_or(0)
 }

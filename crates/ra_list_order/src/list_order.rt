@@ -75,7 +75,7 @@ impl ListOrder {
     ///
     /// # Complexity
     ///
-    /// O(number of edges from `before`).
+    /// O(log n) with `n` edges.
     pub fn has_edge(&self, before: u32, after: u32) -> bool
         // The result is `true` exactly if one of the edges is from `before` to `after`.
         ensures { IsTrue result ↔ HasEdge self.now.edges before after }

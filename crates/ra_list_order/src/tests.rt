@@ -237,3 +237,85 @@ fn inserts_in_the_middle_in_few_steps(rt: HostRuntime) -> Result<(), Fail> {
     assert!(rt; steps > 100_000);
     Ok(())
 }
+
+// The elements in order. If the allocation fails, the call is repeated.
+fn elements_of(alloc: Global, order: &ListOrder) -> Result<Vec<u32>, NoMemory> {
+    if let Ok(elements) = order.elements(alloc) {
+        return Ok(elements);
+    }
+    order.elements(alloc)
+}
+
+// Inserts an element behind another one, or at the front. If an allocation fails, nothing is changed, and the call is
+// repeated. The model is the expected order, with room for one more element.
+fn put_again(
+    rt: &impl Abort,
+    alloc: Global,
+    order: &mut ListOrder,
+    model: &mut Vec<u32>,
+    element: u32,
+    left: Option<u32>,
+) -> Result<(), NoMemory> {
+    if put_behind(rt, order, element, left).is_err() {
+        assert_eq!(rt; elements_of(alloc, order)?.as_slice(), model.as_slice());
+        put_behind(rt, order, element, left)?;
+    }
+    let mut place = 0usize;
+    for (i, other) in model.iter().enumerate() {
+        if left == Some(*other) {
+            place = i + 1;
+        }
+    }
+    assert!(rt; place <= model.len());
+    let _ = model.insert(place, element);
+    Ok(())
+}
+
+// Adds an edge. If an allocation fails, nothing is changed, and the call is repeated.
+fn add_again(
+    rt: &impl Abort,
+    alloc: Global,
+    order: &mut ListOrder,
+    edge: Edge,
+) -> Result<Option<Vec<Edge>>, NoMemory> {
+    let before = elements_of(alloc, order)?;
+    let had = order.has_edge(edge.before, edge.after);
+    if let Ok(found) = add(rt, alloc, order, edge) {
+        return Ok(found);
+    }
+    assert_eq!(rt; elements_of(alloc, order)?.as_slice(), before.as_slice());
+    assert_eq!(rt; order.has_edge(edge.before, edge.after), had);
+    add(rt, alloc, order, edge)
+}
+
+// `rt try --test --fail-alloc N` lets the allocation N fail. The call that asks for it changes nothing.
+#[test]
+fn changes_nothing_if_an_allocation_fails(rt: HostRuntime) -> Result<(), Fail> {
+    let alloc = rt.alloc();
+    let mut order = ListOrder::new(alloc);
+    let mut model = match Vec::with_capacity(alloc, 140) {
+        Ok(model) => model,
+        Err(_) => Vec::with_capacity(alloc, 140)?,
+    };
+    put_again(&rt, alloc, &mut order, &mut model, 0, None)?;
+    for element in 1..132 {
+        put_again(
+            &rt,
+            alloc,
+            &mut order,
+            &mut model,
+            element,
+            Some(element - 1),
+        )?;
+    }
+    for element in 132..136 {
+        put_again(&rt, alloc, &mut order, &mut model, element, Some(5))?;
+    }
+    assert_eq!(rt; elements_of(alloc, &order)?.as_slice(), model.as_slice());
+    assert!(rt; add_again(&rt, alloc, &mut order, edge(0, 131, 0))?.is_none());
+    assert!(rt; add_again(&rt, alloc, &mut order, edge(131, 3, 1))?.is_none());
+    assert!(rt; add_again(&rt, alloc, &mut order, edge(3, 4, 2))?.is_none());
+    assert!(rt; add_again(&rt, alloc, &mut order, edge(4, 0, 3))?.is_some());
+    assert_eq!(rt; elements_of(alloc, &order)?.len(), model.len());
+    Ok(())
+}

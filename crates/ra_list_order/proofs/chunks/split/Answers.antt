@@ -10,7 +10,8 @@ pub returns-in_err-right-clause-grouped : goal.returns-in_err-right-clause-group
 returns-in_err-right-clause-grouped c =
     split_failed (get nat_cmp c.args.groups.now) c.args.chunks.now.items c.reserve-2.new.self.items
     c.args.places.now.items c.reserve.new.self.items c.args.place c.index_mut.result.now c.split_off.new.self
-    c.split_off.new.self c.requires.grouped (let low = c.requires.place in let size = c.args.chunks.now.ok.0 in omega (arith, low, size))
+    c.split_off.new.self c.requires.grouped (let low = c.requires.place in let size = c.args.chunks.now.ok.0 in
+    omega (arith, low, size))
     c.in_ok-reserve-2.ensures.items c.in_ok-reserve.ensures.items c.index_mut.ensures.value c.split_off.ensures.group
     c.in_err-right.ensures.failed
 
@@ -18,7 +19,8 @@ pub returns-in_err-right-clause-joined : goal.returns-in_err-right-clause-joined
 returns-in_err-right-clause-joined c =
     split_failed_joined (get nat_cmp c.args.groups.now) c.args.chunks.now.items c.reserve-2.new.self.items
     c.args.places.now.items c.reserve.new.self.items c.args.place c.index_mut.result.now c.split_off.new.self
-    c.split_off.new.self c.requires.grouped (let low = c.requires.place in let size = c.args.chunks.now.ok.0 in omega (arith, low, size))
+    c.split_off.new.self c.requires.grouped (let low = c.requires.place in let size = c.args.chunks.now.ok.0 in
+    omega (arith, low, size))
     c.in_ok-reserve-2.ensures.items c.in_ok-reserve.ensures.items c.index_mut.ensures.value c.split_off.ensures.group
     c.in_err-right.ensures.failed
 
@@ -27,7 +29,8 @@ move_to-requires c =
     subst (λ xs. (x : ℕ) → Contains xs x → IsSome (get nat_cmp c.args.groups.now x)) (sym c.elements.ensures)
     (split_moves (get nat_cmp c.args.groups.now) c.args.chunks.now.items c.reserve-2.new.self.items
     c.args.places.now.items c.reserve.new.self.items c.args.place c.index_mut.result.now c.split_off.new.self
-    c.in_ok-right.right c.requires.grouped (let low = c.requires.place in let size = c.args.chunks.now.ok.0 in omega (arith, low, size))
+    c.in_ok-right.right c.requires.grouped (let low = c.requires.place in let size = c.args.chunks.now.ok.0 in
+    omega (arith, low, size))
     c.in_ok-reserve-2.ensures.items c.in_ok-reserve.ensures.items c.index_mut.ensures.value c.split_off.ensures.group
     c.in_ok-right.ensures.elements)
 

@@ -25,7 +25,9 @@ loop-chunk-preserved c =
     let is = read_at chunks k no_chunk c.chunk-item.result c.loop-chunk-test.true c.chunk-item.is in
     chunks_more chunks k c.chunk-item.result (get nat_cmp c.args.groups.now) (get nat_cmp c.loop-chunk.groups)
     (get nat_cmp c.move_to.new.groups) c.loop-chunk-test.true is c.requires.once c.loop-chunk.invariant
-    (subst (λ xs. AreMovedTo xs c.chunk-item.result.group (get nat_cmp c.loop-chunk.groups) (get nat_cmp c.move_to.new.groups))
+    (subst (λ xs. AreMovedTo xs c.chunk-item.result.group (get nat_cmp c.loop-chunk.groups)
+    (get nat_cmp c.move_to.new.groups))
     c.elements.ensures
-    (subst (λ g. AreMovedTo c.elements.result.now g (get nat_cmp c.loop-chunk.groups) (get nat_cmp c.move_to.new.groups))
+    (subst (λ g. AreMovedTo c.elements.result.now g (get nat_cmp c.loop-chunk.groups)
+    (get nat_cmp c.move_to.new.groups))
     c.group.ensures c.move_to.ensures))

@@ -20,8 +20,10 @@ pub write_back-requires : goal.write_back-requires
 write_back-requires c =
     let edge : Edge = record { before = c.args.before; after = c.args.after; label = c.args.label } in
     parts_fit c.self.inside.order c.in-Some.span.first c.in-Some.span.end c.in_ok-elements.elements.items
-    c.deref.result.now c.deref-2.result.now c.part_with-start.result.0 c.part_with-start.result.1 c.self.inside.edges edge
-    c.in_ok-swept.swept.stays.items c.in_ok-swept.swept.moves.items c.deref-4.result.now c.extend_from_slice.new.self.items
+    c.deref.result.now c.deref-2.result.now c.part_with-start.result.0 c.part_with-start.result.1 c.self.inside.edges
+    edge
+    c.in_ok-swept.swept.stays.items c.in_ok-swept.swept.moves.items c.deref-4.result.now
+    c.extend_from_slice.new.self.items
     c.deref-5.result.now [] c.in_ok-swept.swept.walked.items c.in-Some.ensures
     c.in_ok-elements.ensures c.deref.ensures.value c.part_with-start.ensures c.deref-2.ensures.value
     c.in_ok-swept.ensures c.deref-4.ensures.value c.in_ok-extend_from_slice.ensures.items c.deref-5.ensures.value
@@ -33,11 +35,14 @@ overwrite-requires-clause-same c =
     subst (λ xs. IsPermutation (joined (between c.in-Some.span.first c.in-Some.span.end c.self.inside.order)) xs)
     (sym c.deref-6.ensures.value)
     (same_elements c.self.inside.order c.in-Some.span.first c.in-Some.span.end c.in_ok-elements.elements.items
-    c.deref.result.now c.deref-2.result.now c.part_with-start.result.0 c.part_with-start.result.1 c.self.inside.edges edge
-    c.in_ok-swept.swept.stays.items c.in_ok-swept.swept.moves.items c.deref-4.result.now c.extend_from_slice.new.self.items
+    c.deref.result.now c.deref-2.result.now c.part_with-start.result.0 c.part_with-start.result.1 c.self.inside.edges
+    edge
+    c.in_ok-swept.swept.stays.items c.in_ok-swept.swept.moves.items c.deref-4.result.now
+    c.extend_from_slice.new.self.items
     c.deref-5.result.now c.write_back.new.elements.items c.in_ok-swept.swept.walked.items c.in-Some.ensures
     c.in_ok-elements.ensures c.deref.ensures.value c.part_with-start.ensures c.deref-2.ensures.value
-    c.in_ok-swept.ensures c.deref-4.ensures.value c.in_ok-extend_from_slice.ensures.items c.deref-5.ensures.value c.write_back.ensures)
+    c.in_ok-swept.ensures c.deref-4.ensures.value c.in_ok-extend_from_slice.ensures.items c.deref-5.ensures.value
+    c.write_back.ensures)
 
 overwritten : (c : goal.After-drop-elements-2) → joined c.overwrite.new.self
     ≡ joined (take c.in-Some.span.first c.self.inside.order)
@@ -51,21 +56,27 @@ moved : (c : goal.After-drop-elements-2) → IsPermutation (joined c.self.inside
 moved c =
     let edge : Edge = record { before = c.args.before; after = c.args.after; label = c.args.label } in
     swept_elements c.self.inside.order c.in-Some.span.first c.in-Some.span.end c.in_ok-elements.elements.items
-    c.deref.result.now c.deref-2.result.now c.part_with-start.result.0 c.part_with-start.result.1 c.self.inside.edges edge
-    c.in_ok-swept.swept.stays.items c.in_ok-swept.swept.moves.items c.deref-4.result.now c.extend_from_slice.new.self.items
+    c.deref.result.now c.deref-2.result.now c.part_with-start.result.0 c.part_with-start.result.1 c.self.inside.edges
+    edge
+    c.in_ok-swept.swept.stays.items c.in_ok-swept.swept.moves.items c.deref-4.result.now
+    c.extend_from_slice.new.self.items
     c.deref-5.result.now c.write_back.new.elements.items c.in_ok-swept.swept.walked.items c.in-Some.ensures
     c.in_ok-elements.ensures c.deref.ensures.value c.part_with-start.ensures c.deref-2.ensures.value
-    c.in_ok-swept.ensures c.deref-4.ensures.value c.in_ok-extend_from_slice.ensures.items c.deref-5.ensures.value c.write_back.ensures (joined c.overwrite.new.self) (overwritten c)
+    c.in_ok-swept.ensures c.deref-4.ensures.value c.in_ok-extend_from_slice.ensures.items c.deref-5.ensures.value
+    c.write_back.ensures (joined c.overwrite.new.self) (overwritten c)
 
 kept : (c : goal.After-drop-elements-2) → ListOrderKept (joined c.overwrite.new.self) c.push-2.new.self
 kept c =
     let edge : Edge = record { before = c.args.before; after = c.args.after; label = c.args.label } in
     swept_kept c.self.inside.order c.in-Some.span.first c.in-Some.span.end c.in_ok-elements.elements.items
-    c.deref.result.now c.deref-2.result.now c.part_with-start.result.0 c.part_with-start.result.1 c.self.inside.edges edge
-    c.in_ok-swept.swept.stays.items c.in_ok-swept.swept.moves.items c.deref-4.result.now c.extend_from_slice.new.self.items
+    c.deref.result.now c.deref-2.result.now c.part_with-start.result.0 c.part_with-start.result.1 c.self.inside.edges
+    edge
+    c.in_ok-swept.swept.stays.items c.in_ok-swept.swept.moves.items c.deref-4.result.now
+    c.extend_from_slice.new.self.items
     c.deref-5.result.now c.write_back.new.elements.items c.in_ok-swept.swept.walked.items c.in-Some.ensures
     c.in_ok-elements.ensures c.deref.ensures.value c.part_with-start.ensures c.deref-2.ensures.value
-    c.in_ok-swept.ensures c.deref-4.ensures.value c.in_ok-extend_from_slice.ensures.items c.deref-5.ensures.value c.write_back.ensures (joined c.overwrite.new.self) (overwritten c)
+    c.in_ok-swept.ensures c.deref-4.ensures.value c.in_ok-extend_from_slice.ensures.items c.deref-5.ensures.value
+    c.write_back.ensures (joined c.overwrite.new.self) (overwritten c)
     c.deref-3.result.now c.push-2.new.self c.is_marked.result c.deref-3.ensures.value c.is_marked.ensures
     c.if-is_marked.false c.in_ok-push-2.ensures.pushed c.self.invariant
 

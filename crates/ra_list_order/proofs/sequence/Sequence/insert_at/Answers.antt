@@ -16,7 +16,8 @@ invariant_of-self c =
 
 pub returns-in_err-reserve-clause-failed : goal.returns-in_err-reserve-clause-failed
 returns-in_err-reserve-clause-failed c =
-    on_err_any c.from_residual.result (mid_joined c.self.inside.chunks.items c.args.place c.index_mut.result.now c.reserve.new.self
+    on_err_any c.from_residual.result
+    (mid_joined c.self.inside.chunks.items c.args.place c.index_mut.result.now c.reserve.new.self
     (subst (λ cs. c.args.place < length cs) (sym c.self.view_is) c.requires.place) c.index_mut.ensures.value
     c.reserve.ensures.group c.reserve.ensures.elements ∙ ap joined c.self.view_is)
 
@@ -30,7 +31,8 @@ invariant_of-self-in_err-insert c =
 
 pub returns-in_err-insert-clause-failed : goal.returns-in_err-insert-clause-failed
 returns-in_err-insert-clause-failed c =
-    on_err_any c.from_residual-in_err-insert.result (mid_joined c.self.inside.chunks.items c.args.place c.index_mut.result.now c.reserve.new.self
+    on_err_any c.from_residual-in_err-insert.result
+    (mid_joined c.self.inside.chunks.items c.args.place c.index_mut.result.now c.reserve.new.self
     (subst (λ cs. c.args.place < length cs) (sym c.self.view_is) c.requires.place) c.index_mut.ensures.value
     c.reserve.ensures.group c.reserve.ensures.elements ∙ ap joined c.self.view_is)
 

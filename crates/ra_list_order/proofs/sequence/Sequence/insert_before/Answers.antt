@@ -11,7 +11,8 @@ returns-clause-put c =
     let chunks = c.make_room.new.self in
     let k = c.place_of-place.result in
     let there = c.place_of-place.ensures.within in
-    let mine : c.elements.result.now ≡ (chunk_at chunks k).elements = c.elements.ensures ∙ ap (λ (h : Chunk). h.elements)
+    let mine : c.elements.result.now ≡ (chunk_at chunks k).elements = c.elements.ensures
+    ∙ ap (λ (h : Chunk). h.elements)
     (read_at c.self.inside.chunks.items k no_chunk c.index.result.now
     (subst (λ cs. k < length cs) (sym c.self.view_is) there) c.index.ensures
     ∙ ap (λ cs. chunk_at cs k) c.self.view_is) in

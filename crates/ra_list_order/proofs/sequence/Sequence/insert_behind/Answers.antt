@@ -11,11 +11,13 @@ returns-clause-put c =
     let chunks = c.make_room.new.self in
     let k = c.place_of-place.result in
     let there = c.place_of-place.ensures.within in
-    let mine : c.elements.result.now ≡ (chunk_at chunks k).elements = c.elements.ensures ∙ ap (λ (h : Chunk). h.elements)
+    let mine : c.elements.result.now ≡ (chunk_at chunks k).elements = c.elements.ensures
+    ∙ ap (λ (h : Chunk). h.elements)
     (read_at c.self.inside.chunks.items k no_chunk c.index.result.now
     (subst (λ cs. k < length cs) (sym c.self.view_is) there) c.index.ensures
     ∙ ap (λ cs. chunk_at cs k) c.self.view_is) in
-    on_ok c.insert_at.result c.insert_at.ensures.inserted (λ (made : IsInsertedAt chunks k (c.position_of-position.result + 1)
+    on_ok c.insert_at.result c.insert_at.ensures.inserted (λ (made : IsInsertedAt chunks k
+    (c.position_of-position.result + 1)
     c.args.element c.insert_at.new.self). subst (λ xs. IsPut xs (Some c.args.left) None c.args.element
     (joined c.insert_at.new.self)) c.make_room.ensures.joined
     (put_behind_in chunks c.insert_at.new.self k c.position_of-position.result c.args.left c.args.element None there

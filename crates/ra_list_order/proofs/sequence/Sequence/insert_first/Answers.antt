@@ -30,6 +30,7 @@ some c = elim c.if-is_empty.branch [
 
 pub returns-clause-put : goal.returns-clause-put
 returns-clause-put c =
-    on_ok c.insert_at.result c.insert_at.ensures.inserted (λ (made : IsInsertedAt c.make_room.new.self 0 0 c.args.element
+    on_ok c.insert_at.result c.insert_at.ensures.inserted
+    (λ (made : IsInsertedAt c.make_room.new.self 0 0 c.args.element
     c.insert_at.new.self). put_first_in c.make_room.new.self c.insert_at.new.self c.args.element (some c) made
     ∙ ap (λ (xs : List ℕ). c.args.element ∷ xs) (same c))

@@ -9,9 +9,11 @@ pub invariant_of-self-2 : goal.invariant_of-self-2
 invariant_of-self-2 c =
     let chunks = c.self.inside.chunks.items in
     let places = c.self.inside.places.items in
-    let chunks_is = c.push_reserved-2.ensures.items ∙ ap (λ cs. cs ++ c.new-chunk.result ∷ []) c.in_ok-reserve-2.ensures.items in
+    let chunks_is = c.push_reserved-2.ensures.items
+    ∙ ap (λ cs. cs ++ c.new-chunk.result ∷ []) c.in_ok-reserve-2.ensures.items in
     let places_is = c.push_reserved.ensures.items ∙ ap (λ ps. ps ++ c.len-2.result ∷ []) c.in_ok-reserve.ensures.items
-    ∙ ap (λ n. places ++ n ∷ []) (c.len-2.ensures ∙ c.reserve-2.new.self.ok.0 ∙ ap length c.in_ok-reserve-2.ensures.items) in
+    ∙ ap (λ n. places ++ n ∷ []) (c.len-2.ensures ∙ c.reserve-2.new.self.ok.0
+    ∙ ap length c.in_ok-reserve-2.ensures.items) in
     subst (λ ps. AreGrouped (get nat_cmp c.self.inside.groups) c.push_reserved-2.new.self.items ps) (sym places_is)
     (subst (λ cs. AreGrouped (get nat_cmp c.self.inside.groups) cs (places ++ length chunks ∷ [])) (sym chunks_is)
     (grouped_pushed (get nat_cmp c.self.inside.groups) chunks places c.new-chunk.result c.self.invariant
