@@ -1,13 +1,21 @@
 // Shrinks a failed run as long as it fails for the same cause. Each attempt is a real run.
 import { DeliveryState } from "./delivery_state.js";
+import { OPERATIONS } from "./operations.js";
+import { BOUNDARIES } from "./plans.js";
 import { isSameCause } from "./runs.js";
 import { COPYING, RECEIVING, makeStep, renumbered } from "./steps.js";
 
 // Removing each pair of steps is affordable up to this number of steps.
 const MAX_STEPS_FOR_PAIRS = 16;
-const STRATEGIES = [removeReplica, uniteReplicas, removeRange, removeUpdate, mergeAtOnce, calm, removePair];
+const STRATEGIES = [
+  ...[removeReplica, uniteReplicas, removeRange, removeUpdate, mergeAtOnce, calm],
+  ...[lowerAll, lowerAmount, lowerValue, removePair],
+];
 
-/** Returns a run from which no replica, no update and no other step can be removed, and no message delayed. */
+/**
+ * Returns a run from which no replica, no update and no other step can be removed, and no message delayed. No amount,
+ * and no value or element, can be lowered in it.
+ */
 export async function shrink(failure, run) {
   const runOnce = withoutRepetition(run);
   let smallest = failure;
@@ -42,11 +50,21 @@ async function applyStrategy(failure, run, strategy) {
   return failure;
 }
 
-/** Returns whether there are fewer steps, or as many of which fewer are deliveries out of order. */
+/**
+ * Returns whether there are fewer steps, or as many of which fewer are deliveries out of order, or as many with a
+ * smaller sum of their numbers.
+ */
 function isSmaller(steps, others) {
   if (steps.length !== others.length) return steps.length < others.length;
-  return earlyArrivals(steps).size < earlyArrivals(others).size;
+  const [early, othersEarly] = [earlyArrivals(steps).size, earlyArrivals(others).size];
+  return early !== othersEarly ? early < othersEarly : sumOfNumbers(steps) < sumOfNumbers(others);
 }
+
+/** Returns the sum as a bigint, since the sum of large numbers is not exact otherwise. */
+const sumOfNumbers = (steps) => numbersIn(steps).reduce((sum, it) => sum + BigInt(it), 0n);
+
+/** Returns the amounts, values and elements in these steps. */
+const numbersIn = (steps) => steps.flatMap((it) => it.arguments.filter(Number.isSafeInteger));
 
 /** Returns the deliveries, by their places, that come before an update that theirs sees, and that update. */
 export function earlyArrivals(steps) {
@@ -133,6 +151,47 @@ function* calm(steps) {
     }
   }
 }
+
+/** Yields the steps with each amount 1, and with the values and elements numbered from 1 in their order. */
+function* lowerAll(steps) {
+  const values = new Set(numbersIn(steps.filter((it) => !counts(it))));
+  const numbers = new Map([...values].map((it, at) => [it, at + 1]));
+  yield steps.map((it) => (counts(it) ? { ...it, arguments: it.arguments.map(() => 1) } : withValues(it, numbers)));
+}
+
+/** Yields the steps with one amount lowered to 1, and then by a half of it, a quarter, down to 1. */
+function* lowerAmount(steps) {
+  for (const [place, step] of steps.entries()) {
+    const [amount = 0] = counts(step) ? numbersIn([step]) : [];
+    const lower = new Set([1]);
+    for (let by = amount >> 1; by > 0; by >>= 1) lower.add(amount - by);
+    for (const it of lower) {
+      if (it < amount) yield [...steps.slice(0, place), { ...step, arguments: [it] }, ...steps.slice(place + 1)];
+    }
+  }
+}
+
+/**
+ * Yields the steps with one value or element replaced by the smallest that is free, and then by lower boundaries. It is
+ * replaced wherever it occurs, since the steps of a list name its elements.
+ */
+function* lowerValue(steps) {
+  const used = new Set(numbersIn(steps.filter((it) => !counts(it))));
+  let smallest = 1;
+  while (used.has(smallest)) smallest += 1;
+  for (const value of [...used].sort((one, other) => other - one)) {
+    for (const lower of new Set([smallest, ...BOUNDARIES])) {
+      if (lower < smallest || lower >= value || used.has(lower)) continue;
+      yield steps.map((it) => (counts(it) ? it : withValues(it, new Map([[value, lower]]))));
+    }
+  }
+}
+
+/** Returns whether the step is an update of a counter, whose argument is an amount. */
+const counts = (step) => OPERATIONS.counter.includes(step.method);
+
+/** Returns the step with these numbers in the place of its values. */
+const withValues = (step, numbers) => ({ ...step, arguments: step.arguments.map((it) => numbers.get(it) ?? it) });
 
 /** Yields the steps without two of them, since some can be removed only together. */
 function* removePair(steps) {

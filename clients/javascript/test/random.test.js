@@ -58,6 +58,17 @@ class SummingCounter extends MergedCounter {
   }
 }
 
+/** The same bug in a counter whose methods take an amount. */
+class SummingAmounts extends SummingCounter {
+  increment(by = 1) {
+    this.steps[`+${this.name}`] = (this.steps[`+${this.name}`] ?? 0) + by;
+  }
+
+  async decrement(by = 1) {
+    this.steps[`-${this.name}`] = (this.steps[`-${this.name}`] ?? 0) + by;
+  }
+}
+
 /** Overwrites its state with one that has nothing new. */
 class ForgetfulCounter extends MergedCounter {
   merge(state) {
@@ -227,6 +238,15 @@ test("each observable bug is found and shrunk", (t) =>
 
 test("a merge that counts twice", async () => {
   requireSmallFailure(await checkRandom(create(SummingCounter), "counter").catch((fault) => fault));
+});
+
+test("a merge that counts twice is shrunk to small amounts", async () => {
+  for (let seed = 0; seed < 8; seed += 1) {
+    const failed = await checkRandom(create(SummingAmounts), "counter", { seeds: [seed] }).catch((fault) => fault);
+    requireSmallFailure(failed);
+    const updates = readFileSync(failed.history, "utf8").split("\n").filter((it) => / (inc|dec)$/.test(it));
+    assert.equal(updates.length, 1, updates);
+  }
 });
 
 test("an old state that overwrites", async () => {

@@ -123,6 +123,35 @@ test("the strategies are tried again after a later one succeeded", async () => {
   assert.equal(await smallest(updates("paqbcdwxyz"), causeOf), "abcd");
 });
 
+const numbersIn = (steps) => steps.flatMap((it) => it.arguments).filter((it) => it !== null);
+
+/** Returns the numbers in the shrunk run. A run fails if it has all steps and `fails` holds for its numbers. */
+async function lowered(steps, fails) {
+  const run = async (candidate) =>
+    candidate.length === steps.length && fails(numbersIn(candidate)) ? { cause: NO, steps: candidate } : null;
+  return numbersIn((await shrink({ cause: NO, steps }, run)).steps);
+}
+
+test("amounts are lowered", async () => {
+  const counting = (method, amount) => makeStep("update", 0, amount, method, [amount]);
+  const steps = [counting("increment", 256), counting("decrement", 128), makeStep("read", 0)];
+  assert.deepEqual(await lowered(steps, () => true), [1, 1]);
+  assert.deepEqual(await lowered(steps, (amounts) => amounts[0] > 100), [101, 1]);
+  assert.deepEqual(await lowered(steps, (amounts) => amounts[0] - amounts[1] >= 128), [129, 1]);
+  assert.deepEqual(await lowered(steps, (amounts) => amounts[1] >= 128), [1, 128]);
+});
+
+test("values and elements are lowered", async () => {
+  const steps = [
+    makeStep("update", 0, 1, "insertAfter", [null, 65_536]), makeStep("update", 0, 2, "insertAfter", [65_536, 2 ** 31]),
+    makeStep("update", 0, 3, "remove", [65_536]),
+  ];
+  assert.deepEqual(await lowered(steps, () => true), [1, 1, 2, 1]);
+  // Where one value has to be large, it is the smallest such boundary, and the others are small.
+  assert.deepEqual(await lowered(steps, (values) => values[2] > 255), [1, 1, 256, 1]);
+  assert.deepEqual(await lowered(steps, (values) => Math.min(...values) >= 256), [65_535, 65_535, 256, 65_535]);
+});
+
 test("a run that fails for another cause is not accepted", async () => {
   const causeOf = (steps) => (lettersOf(steps).includes("b") ? NO : ["refused", "stamp-taken"]);
   assert.equal(await smallest(updates("abc"), causeOf), "b");

@@ -52,6 +52,16 @@ class SummingCounter(MergedCounter):
             self.steps[key] = self.steps.get(key, 0) + number
 
 
+class SummingAmounts(SummingCounter):
+    """The same bug in a counter whose methods take an amount."""
+
+    def increment(self, by: int = 1) -> None:
+        self.steps[self.name, 1] = self.steps.get((self.name, 1), 0) + by
+
+    def decrement(self, by: int = 1) -> None:
+        self.steps[self.name, -1] = self.steps.get((self.name, -1), 0) + by
+
+
 class ForgetfulCounter(MergedCounter):
     """Overwrites its state with one that has nothing new."""
 
@@ -220,6 +230,15 @@ class PlantedBugs(unittest.TestCase):
         with self.assertRaises(NotLinearizable) as caught:
             check_random(SummingCounter, "counter", seeds=FOUND_WITHIN)
         require_small_failure(self, caught.exception)
+
+    def test_a_merge_that_counts_twice_is_shrunk_to_small_amounts(self) -> None:
+        for seed in range(8):
+            with self.subTest(seed=seed), self.assertRaises(NotLinearizable) as caught:
+                check_random(SummingAmounts, "counter", seeds=[seed])
+            require_small_failure(self, caught.exception)
+            with open(caught.exception.history or "") as file:
+                updates = [it for it in file if it.endswith((" inc\n", " dec\n"))]
+            self.assertEqual(len(updates), 1, updates)
 
     def test_an_old_state_that_overwrites(self) -> None:
         with self.assertRaises(NotLinearizable) as caught:

@@ -81,6 +81,25 @@ def fails_with(needed: str, *together: str) -> Callable[[Steps], Optional[Tuple[
     return cause_of
 
 
+def counting(method: str, amount: int) -> Step:
+    """Returns the update of a counter by this amount."""
+    return Step("update", 0, amount, method, (amount,))
+
+
+def numbers_in(steps: Steps) -> List[int]:
+    """Returns the amounts, values and elements in these steps."""
+    return [number for it in steps for number in it.arguments if number is not None]
+
+
+def numbers_of(steps: Steps, fails: Callable[[Steps], bool]) -> List[int]:
+    """Returns the numbers in the shrunk run. `fails` returns whether a run fails."""
+
+    def failure_of(candidate: Steps) -> Failure:
+        return Failure(NO, [*candidate], None, "", [])  # type: ignore[arg-type]
+
+    return numbers_in(shrink(failure_of(steps), lambda it: failure_of(it) if fails(it) else None).steps)
+
+
 class Strategies(unittest.TestCase):
     def test_a_replica_is_removed_with_all_that_it_sent(self) -> None:
         steps = [
@@ -150,6 +169,31 @@ class Strategies(unittest.TestCase):
             return fails_with("abcd", "pq", "wxyz")(steps) if "w" in letters or "p" not in letters else None
 
         self.assertEqual(smallest(updates("paqbcdwxyz"), cause_of), "abcd")
+
+    def test_amounts_are_lowered(self) -> None:
+        steps = [counting("increment", 256), counting("decrement", 128), Step("read", 0)]
+
+        def lowered(fails: Callable[[List[int]], bool]) -> List[int]:
+            return numbers_of(steps, lambda it: len(it) == 3 and fails(numbers_in(it)))
+
+        self.assertEqual(lowered(lambda amounts: True), [1, 1])
+        self.assertEqual(lowered(lambda amounts: amounts[0] > 100), [101, 1])
+        self.assertEqual(lowered(lambda amounts: amounts[0] - amounts[1] >= 128), [129, 1])
+        self.assertEqual(lowered(lambda amounts: amounts[1] >= 128), [1, 128])
+
+    def test_values_and_elements_are_lowered(self) -> None:
+        steps = [
+            Step("update", 0, 1, "insert_after", (None, 65536)), Step("update", 0, 2, "insert_after", (65536, 2**31)),
+            Step("update", 0, 3, "remove", (65536,)),
+        ]
+
+        def lowered(fails: Callable[[List[int]], bool]) -> List[int]:
+            return numbers_of(steps, lambda it: len(it) == 3 and fails(numbers_in(it)))
+
+        self.assertEqual(lowered(lambda values: True), [1, 1, 2, 1])
+        # Where one value has to be large, it is the smallest such boundary, and the others are small.
+        self.assertEqual(lowered(lambda values: values[2] > 255), [1, 1, 256, 1])
+        self.assertEqual(lowered(lambda values: min(values) >= 256), [65535, 65535, 256, 65535])
 
     def test_a_run_that_fails_for_another_cause_is_not_accepted(self) -> None:
         def cause_of(steps: Steps) -> Tuple[str, ...]:

@@ -1,7 +1,9 @@
 """Shrinks a failed run as long as it fails for the same cause. Each attempt is a real run."""
-from typing import Callable, Dict, Iterator, List, Optional, Sequence, Set, Tuple
+from typing import Any, Callable, Dict, Iterator, List, Optional, Sequence, Set, Tuple
 
 from .delivery_state import DeliveryState
+from .operations import OPERATIONS
+from .plans import BOUNDARIES
 from .runs import Failure
 from .steps import COPYING, RECEIVING, Step, renumbered
 
@@ -13,7 +15,10 @@ MAX_STEPS_FOR_PAIRS = 16
 
 
 def shrink(failure: Failure, run: Run) -> Failure:
-    """Returns a run from which no replica, no update and no other step can be removed, and no message delayed."""
+    """Returns a run from which no replica, no update and no other step can be removed, and no message delayed.
+
+    No amount, and no value or element, can be lowered in it.
+    """
     run = _without_repetition(run)
     while True:
         smaller = _apply_strategies(failure, run)
@@ -41,7 +46,7 @@ def _without_repetition(run: Run) -> Run:
 
 def _apply_strategies(failure: Failure, run: Run) -> Failure:
     removals = _remove_replica, _unite_replicas, _remove_range, _remove_update
-    for strategy in (*removals, _merge_at_once, _calm, _remove_pair):
+    for strategy in (*removals, _merge_at_once, _calm, _lower_all, _lower_amount, _lower_value, _remove_pair):
         failure = _apply_strategy(failure, run, strategy)
     return failure
 
@@ -60,10 +65,23 @@ def _apply_strategy(failure: Failure, run: Run, strategy: Strategy) -> Failure:
 
 
 def _is_smaller(steps: Sequence[Step], others: Sequence[Step]) -> bool:
-    """Returns whether there are fewer steps, or as many of which fewer are deliveries out of order."""
+    """Returns whether there are fewer steps, or as many of which fewer are deliveries out of order, or as many with a
+    smaller sum of their numbers."""
     if len(steps) != len(others):
         return len(steps) < len(others)
-    return len(early_arrivals(steps)) < len(early_arrivals(others))
+    early, others_early = len(early_arrivals(steps)), len(early_arrivals(others))
+    if early != others_early:
+        return early < others_early
+    return sum(_numbers(steps)) < sum(_numbers(others))
+
+
+def _numbers(steps: Sequence[Step]) -> List[int]:
+    """Returns the amounts, values and elements in these steps."""
+    return [it for step in steps for it in step.arguments if _is_number(it)]
+
+
+def _is_number(argument: Any) -> bool:
+    return isinstance(argument, int) and not isinstance(argument, bool)
 
 
 def early_arrivals(steps: Sequence[Step]) -> Dict[int, int]:
@@ -142,6 +160,50 @@ def _calm(steps: List[Step]) -> Iterator[List[Step]]:
         for later in range(place + 1, len(steps)):
             if steps[later].action == "deliver" and steps[later].replica == step.replica:
                 yield [*steps[:place], *steps[place + 1 : later + 1], step, *steps[later + 1 :]]
+
+
+def _lower_all(steps: List[Step]) -> Iterator[List[Step]]:
+    """Yields the steps with each amount 1, and with the values and elements numbered from 1 in their order."""
+    values = dict.fromkeys(_numbers([it for it in steps if not _counts(it)]))
+    number_of = {it: number for number, it in enumerate(values, 1)}
+    yield [
+        it._replace(arguments=(1,) * len(it.arguments)) if _counts(it) else _with_values(it, number_of) for it in steps
+    ]
+
+
+def _lower_amount(steps: List[Step]) -> Iterator[List[Step]]:
+    """Yields the steps with one amount lowered to 1, and then by a half of it, a quarter, down to 1."""
+    for place, step in enumerate(steps):
+        amount = sum(_numbers([step])) if _counts(step) else 0
+        lower = [1, *(amount - (amount >> shift) for shift in range(1, amount.bit_length()))]
+        for it in dict.fromkeys(lower):
+            if it < amount:
+                yield [*steps[:place], step._replace(arguments=(it,)), *steps[place + 1 :]]
+
+
+def _lower_value(steps: List[Step]) -> Iterator[List[Step]]:
+    """Yields the steps with one value or element replaced by the smallest that is free, and then by lower boundaries.
+
+    It is replaced wherever it occurs, since the steps of a list name its elements.
+    """
+    used = {*_numbers([it for it in steps if not _counts(it)])}
+    smallest = next(it for it in range(1, len(used) + 2) if it not in used)
+    for value in sorted(used, reverse=True):
+        for lower in dict.fromkeys((smallest, *BOUNDARIES)):
+            if smallest <= lower < value and lower not in used:
+                yield [it if _counts(it) else _with_values(it, {value: lower}) for it in steps]
+
+
+def _counts(step: Step) -> bool:
+    """Returns whether the step is an update of a counter, whose argument is an amount."""
+    return step.method in OPERATIONS["counter"]
+
+
+def _with_values(step: Step, number_of: Dict[int, int]) -> Step:
+    """Returns the step with these numbers in the place of its values."""
+    return step._replace(
+        arguments=tuple(number_of.get(it, it) if _is_number(it) else it for it in step.arguments)
+    )
 
 
 def _remove_pair(steps: List[Step]) -> Iterator[List[Step]]:
