@@ -75,9 +75,9 @@ export class Refused extends ReportFailed {
   get cause(): string;
 }
 
-/** A replica of a random run threw an error. */
+/** A replica of a random run threw an error, or its `read()` returned what the text format cannot represent. */
 export class ReplicaRaised extends ReportFailed {
-  /** The error that the replica threw. */
+  /** The error that the replica threw, or `NotRepresentable`. */
   cause: unknown;
 }
 
@@ -330,9 +330,10 @@ export class Runs {
  * counter take an amount `by`, amounts up to 256 are tried.
  *
  * Rejects with `NotLinearizable` if a run has a violation, with `Refused` if the program rejected a report, with
- * `ReplicaRaised` if a replica threw an error, and with `FlakyRun` if the same steps did not fail in the same way
- * again. The failed run is shrunk first. The message has the seed, the small history, the faults of the network that
- * are at work in it, and a test of its own. `history` is the file with the history, and `steps` the one for `replay`.
+ * `ReplicaRaised` if a replica threw an error or its `read()` returned what cannot be reported, and with `FlakyRun` if
+ * the same steps did not fail in the same way again. The failed run is shrunk first. The message has the seed, the
+ * small history, the faults of the network that are at work in it, and a test of its own. `history` is the file with
+ * the history, and `steps` the one for `replay`.
  */
 export function checkRandom(makeReplica: MakeReplica, kind: Kind, settings?: RandomSettings): Promise<Runs>;
 /** Tests replicas in random runs, with the numbers of replicas, operations and seeds as parameters of their own. */

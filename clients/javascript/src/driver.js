@@ -6,6 +6,15 @@ import { NotRepresentable } from "./errors.js";
 import * as operations from "./operations.js";
 import { Recorder } from "./recorder.js";
 import { COPYING } from "./steps.js";
+import { expectedResult } from "./translation.js";
+
+/** A read's result that the text format cannot represent. The `cause` is `NotRepresentable`. */
+export class UnusableResult extends Error {
+  constructor(value, expected, cause) {
+    super(`returned ${inspect(value)}: expected ${expected}`, { cause });
+    this.typeName = value === null ? "null" : typeof value;
+  }
+}
 
 /** A substitute for the monitor that collects a recorder's lines, so that one run of the program checks them. */
 class Transcript {
@@ -65,8 +74,8 @@ export class Driver {
   }
 
   /**
-   * Executes the steps up to the first error of the user's class, and returns that as `{ error }`, or null. Steps that
-   * depend on a removed step are skipped.
+   * Executes the steps up to the first error of the user's class or unusable result, and returns that as `{ error }`,
+   * or null. Steps that depend on a removed step are skipped.
    */
   async execute(steps) {
     if (this.#profile.restarts) for (const replica of this.#replicas.keys()) await this.#saveState(replica);
@@ -192,7 +201,15 @@ export class Driver {
   }
 
   async #read({ replica }) {
-    await this.recorder.read(this.#names[replica], await this.#call(replica, "read"));
+    const value = await this.#call(replica, "read");
+    try {
+      await this.recorder.read(this.#names[replica], value);
+    } catch (error) {
+      if (!(error instanceof NotRepresentable)) throw error;
+      // Where this is thrown is of no interest to the user.
+      error.stack = String(error);
+      throw new UnusableResult(value, expectedResult(this.#kind), error);
+    }
     return true;
   }
 

@@ -43,7 +43,10 @@ export class Refused extends ReportFailed {
   }
 }
 
-/** A replica of a random run threw an error, which is the `cause` of this one. */
+/**
+ * A replica of a random run threw an error, which is the `cause` of this one. A `read()` that returned what the text
+ * format cannot represent counts too; the `cause` is `NotRepresentable`.
+ */
 export class ReplicaRaised extends ReportFailed {
   name = "ReplicaRaised";
 }

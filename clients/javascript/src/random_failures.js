@@ -1,5 +1,6 @@
 // The error for a failed random run: its message and its files.
 import { inspect } from "node:util";
+import { UnusableResult } from "./driver.js";
 import { FlakyRun, NotLinearizable, Refused, ReplicaRaised } from "./errors.js";
 import { saveHistory } from "./failure_report.js";
 import { describeFaults } from "./faults.js";
@@ -47,7 +48,9 @@ function createRejected(report, small, history, message) {
 }
 
 function createRaised(small, history, call, { first, details }) {
-  return new ReplicaRaised(`${first}${call}\n${details}`, call, "", history, { cause: small.raised.error });
+  const { error } = small.raised;
+  const cause = error instanceof UnusableResult ? error.cause : error;
+  return new ReplicaRaised(`${first}${call}\n${details}`, call, "", history, { cause });
 }
 
 /** Creates the error for a run that did not fail in the same way again. */
@@ -75,8 +78,12 @@ function answerOf(setting, failure) {
   return [report.describe(report.commands.length - 1), report.summarize(failure.replies.at(-1), null)];
 }
 
-const describeRaised = (setting, failure) =>
-  `${describeCall(setting, failure.steps.at(-1))} threw ${failure.raised.error}`;
+/** Returns the last call, with what it threw, or what it returned that cannot be reported. */
+function describeRaised(setting, failure) {
+  const { error } = failure.raised;
+  const outcome = error instanceof UnusableResult ? error.message : `threw ${error}`;
+  return `${describeCall(setting, failure.steps.at(-1))} ${outcome}`;
+}
 
 /** Writes the history and the steps, and returns both paths. */
 function storeFailure(setting, failure, seed, path) {

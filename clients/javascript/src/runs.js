@@ -1,5 +1,5 @@
 // Runs of plans on the user's own replicas, which the program checks.
-import { Driver } from "./driver.js";
+import { Driver, UnusableResult } from "./driver.js";
 import { Check } from "./program.js";
 
 /** A run whose history is being checked. The program checks it while other runs are executed. */
@@ -23,8 +23,8 @@ export class Run {
   }
 
   /**
-   * Waits for the program, and returns the failure, or null if all passed. Its cause is `["no"]`, `["refused", REASON]`
-   * or `["raised", NAME]`.
+   * Waits for the program, and returns the failure, or null if all passed. Its cause is `["no"]`,
+   * `["refused", REASON]`, `["raised", NAME]`, or `["returned", TYPE]` for a result that cannot be reported.
    */
   async findFailure() {
     const { replies } = await this.#check.wait();
@@ -38,7 +38,9 @@ export class Run {
       return { ...found, cause, steps: driver.stepsTo(failed), text, replies: replies.slice(0, failed + 1) };
     }
     if (this.#raised === null) return null;
-    const cause = ["raised", String(this.#raised.error?.name)];
+    const { error } = this.#raised;
+    const isResult = error instanceof UnusableResult;
+    const cause = isResult ? ["returned", error.typeName] : ["raised", String(error?.name)];
     return { ...found, cause, steps: driver.executed, text: driver.text(), replies, raised: this.#raised };
   }
 

@@ -116,7 +116,7 @@ export class Translator {
       const isWhole = typeof value === "bigint" || Number.isInteger(value);
       if (!isWhole || value < MIN_COUNT || value > MAX_COUNT) {
         throw new NotRepresentable(
-          `a counter's read returned ${inspect(value)}: expected a whole number from ${MIN_COUNT} to ${MAX_COUNT}`,
+          `a counter's read returned ${inspect(value)}: expected ${expectedResult(this.kind)}`,
         );
       }
       // Adding 0 turns -0 into 0.
@@ -124,9 +124,7 @@ export class Translator {
     }
     if (this.kind === "register") return this.#isNothing(value) ? "none" : this.#values.numberOf(value);
     if (typeof value?.[Symbol.iterator] !== "function") {
-      throw new NotRepresentable(
-        `a read returned ${inspect(value)}: expected an array or another iterable of the elements`,
-      );
+      throw new NotRepresentable(`a read returned ${inspect(value)}: expected ${expectedResult(this.kind)}`);
     }
     const numbers = Array.from(value, (it) => this.#values.numberOf(it));
     return joinNumbers(this.kind === "rga" ? numbers : sortUnique(numbers));
@@ -188,6 +186,12 @@ export class Translator {
     const things = numbers.map((it) => this.identifiers.thingOf(it));
     return things.map((it) => (it === undefined ? "an unnamed one" : inspect(it))).join(", ") || "none";
   }
+}
+
+/** Describes what a read of this kind has to return. A register's may return anything. */
+export function expectedResult(kind) {
+  if (kind === "counter") return `a whole number from ${MIN_COUNT} to ${MAX_COUNT}`;
+  return kind === "register" ? "any value" : "an array or another iterable of the elements";
 }
 
 /** Returns whether a replica joins in this line, which then begins with no name. */

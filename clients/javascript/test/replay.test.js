@@ -10,7 +10,7 @@ import { FlakyRun, NotLinearizable, ReplicaRaised, ReportFailed, checkRandom, re
 import { PLANTED, saving } from "./network_replicas.js";
 import { OBSERVABLE } from "./planted.js";
 import { Asynchronous, Flaky, Stuttering, Unrepaired } from "./replayed.js";
-import { Counter, Register, Rga } from "./replicas.js";
+import { Counter, LwwSet, Register, Rga } from "./replicas.js";
 
 const TIES = OBSERVABLE["ties are broken by arrival"].register;
 const urlOf = (file) => JSON.stringify(new URL(file, import.meta.url).href);
@@ -262,6 +262,41 @@ test("a regression test without an assertion replays the stored run", async () =
   assert.match(ran.stdout, /^# fail 1$/m);
   const right = `import { RIGHT } ${from}\nconst ForgetsItsClock = RIGHT["register with restarts"].Replica;`;
   assert.equal((await runSource(source, right)).status, 0);
+});
+
+test("a result that cannot be reported is a failure", async () => {
+  for (const [result, shown, type] of [[NaN, "NaN", "number"], [2.5, "2\\.5", "number"], [null, "null", "null"]]) {
+    // Its read returns this result for 2.
+    class Returning extends Counter {
+      read() {
+        return this.number === 2 ? result : this.number;
+      }
+    }
+    const failed = await failureOf(Returning, "counter");
+    const expected = "expected a whole number from -2147483648 to 2147483647";
+    assert.match(failed.operation, new RegExp(`^'[abc]': read\\(\\) returned ${shown}: ${expected}$`));
+    assert.ok(failed instanceof ReplicaRaised && failed.cause instanceof yehatu.NotRepresentable);
+    assert.match(failed.message, /run \d+, seed 2-\d+, shrunk from \d+ steps to 3;/);
+    assert.equal(readFileSync(failed.history, "utf8").split(" inc\n").length - 1, 2);
+    assert.deepEqual(JSON.parse(readFileSync(failed.steps, "utf8")).cause, ["returned", type]);
+    // The test at the end has to fail, which a read alone does not.
+    assert.match(sourceOf(failed), /import \{ replay \}/);
+    const again = await replay(Returning, failed.steps).catch((fault) => fault);
+    assert.ok(again instanceof ReplicaRaised);
+    assert.match(again.message, new RegExp(`still fails: '.': read\\(\\) returned ${shown}: expected`));
+    assert.equal(await replay(Counter, failed.steps), 3);
+  }
+});
+
+test("a result of a set that cannot be reported is a failure", async () => {
+  class ReadsNothing extends LwwSet {
+    read() {
+      const elements = super.read();
+      return elements.length > 0 ? elements : undefined;
+    }
+  }
+  const failed = await failureOf(ReadsNothing, "lwwset");
+  assert.match(failed.operation, /read\(\) returned undefined: expected an array or another iterable of the elements$/);
 });
 
 test("a run that does not fail again is flaky", async () => {

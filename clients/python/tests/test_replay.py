@@ -11,7 +11,7 @@ from typing import Any, Dict
 import planted
 import yehatu
 from network_replicas import PLANTED, saving
-from replicas import Counter, Register
+from replicas import Counter, LwwSet, Register
 from yehatu import FlakyRun, NotLinearizable, ReplicaRaised, ReportFailed, check_random, replay
 
 TESTS = Path(__file__).resolve().parent
@@ -84,6 +84,16 @@ class Flaky(Counter):
             type(self).left -= 1
             return self.number + 1
         return self.number
+
+
+def returning(result: Any) -> Any:
+    """Returns a class of counters whose read returns this result for 2."""
+
+    class Returning(Counter):
+        def read(self) -> Any:
+            return result if self.number == 2 else self.number
+
+    return Returning
 
 
 class Seeds(unittest.TestCase):
@@ -237,6 +247,36 @@ class Messages(unittest.TestCase):
         ran = run_source(source, name="(lambda name: forgets_its_clock()(name))")
         self.assertIn("FAILED (failures=1)", ran.stderr)
         self.assertEqual(run_source(source, name="(lambda name: saving(Register)(name))").returncode, 0)
+
+
+class UnusableResults(unittest.TestCase):
+    def test_a_result_that_cannot_be_reported_is_a_failure(self) -> None:
+        for result, shown, cause in [
+            (float("nan"), "nan", "float"), (2.0, r"2\.0", "float"), (None, "None", "NoneType"),
+        ]:
+            with self.subTest(result=result):
+                make = returning(result)
+                failed = failure_of(make, "counter")
+                expected = r"expected a whole number from -2147483648 to 2147483647"
+                self.assertRegex(failed.operation, rf"^'[abc]': read\(\) returned {shown}: {expected}$")
+                self.assertIsInstance(failed, ReplicaRaised)
+                self.assertIsInstance(failed.__cause__, yehatu.NotRepresentable)
+                self.assertRegex(str(failed), r"run \d+, seed 2-\d+, shrunk from \d+ steps to 3;")
+                self.assertEqual(_history(failed).count(" inc\n"), 2)
+                self.assertEqual(json.loads(Path(failed.steps or "").read_text())["cause"], ["returned", cause])
+                # The test at the end has to fail, which a read alone does not.
+                self.assertIn("import replay", source_of(failed))
+                with self.assertRaisesRegex(ReplicaRaised, rf"still fails: '.': read\(\) returned {shown}: expected"):
+                    replay(make, failed.steps or "")
+                self.assertEqual(replay(Counter, failed.steps or ""), 3)
+
+    def test_a_result_of_a_set_that_cannot_be_reported_is_a_failure(self) -> None:
+        class ReadsNothing(LwwSet):
+            def read(self) -> Any:
+                return super().read() or None
+
+        with self.assertRaisesRegex(ReplicaRaised, r"read\(\) returned None: expected .* iterable of the elements"):
+            check_random(ReadsNothing, "lwwset")
 
 
 class FlakyRuns(unittest.TestCase):

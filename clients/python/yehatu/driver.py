@@ -11,6 +11,7 @@ from .operations import Operation
 from .profile import Profile
 from .recorder import Recorder, Seen
 from .steps import COPYING, Step
+from .translation import expected_result
 
 
 class Setting(NamedTuple):
@@ -21,6 +22,14 @@ class Setting(NamedTuple):
     replicas: Sequence[Hashable]
     program: str
     profile: Profile = Profile()
+
+
+class UnusableResult(Exception):
+    """A read's result that the text format cannot represent."""
+
+    def __init__(self, value: Any, expected: str) -> None:
+        super().__init__(f"returned {value!r}: expected {expected}")
+        self.type_name = type(value).__name__
 
 
 class Transcript:
@@ -76,7 +85,7 @@ class Driver:
                 self._save_state(replica)
 
     def execute(self, steps: Sequence[Step]) -> Optional[Exception]:
-        """Executes the steps up to the first exception of the user's class, and returns that.
+        """Executes the steps up to the first exception of the user's class or unusable result, and returns that.
 
         Steps that depend on a removed step are skipped.
         """
@@ -209,7 +218,11 @@ class Driver:
     def _read(self, step: Step) -> bool:
         value = self._replicas[step.replica].read()
         self._require_no_coroutine(step, value)
-        self.recorder.read(self._names[step.replica], value)
+        try:
+            self.recorder.read(self._names[step.replica], value)
+        except NotRepresentable as error:
+            # Where this is raised is of no interest to the user.
+            raise UnusableResult(value, expected_result(self._kind)) from error.with_traceback(None)
         return True
 
     # Calls of the user's class.

@@ -44,7 +44,10 @@ class Refused(ReportFailed):
 
 
 class ReplicaRaised(ReportFailed):
-    """A replica of a random run raised an exception, which is the `__cause__` of this one."""
+    """A replica of a random run raised an exception, which is the `__cause__` of this one.
+
+    A `read()` that returned what the text format cannot represent counts too; the `__cause__` is `NotRepresentable`.
+    """
 
 
 class FlakyRun(ReportFailed):

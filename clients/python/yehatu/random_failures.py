@@ -2,6 +2,7 @@
 import os
 from typing import Optional, Sequence, Tuple
 
+from .driver import UnusableResult
 from .errors import FlakyRun, NotLinearizable, Refused, ReplicaRaised, ReportFailed
 from .failure_report import save_history
 from .faults import describe_faults
@@ -36,13 +37,13 @@ def create_error(
         expected = report.expected_read(explanation) if small.steps[-1].action == "read" else None
         parts += ["\nthe same as a test:\n", _indented(regression_test(
             setting.make_replica, setting.kind, setting.replicas, small.steps, seed, expected and Expected(*expected),
-            small.raised is not None, path,
+            small.raised is not None and not isinstance(small.raised, UnusableResult), path,
         ))]
     details = "\n".join(parts).rstrip()
     if small.raised is not None:
-        call = f"{describe_call(setting, small.steps[-1])} raised {small.raised!r}"
+        call = _describe_raised(setting, small)
         error: ReportFailed = ReplicaRaised(f"{first}{call}\n{details}", call, "", history)
-        error.__cause__ = small.raised
+        error.__cause__ = small.raised.__cause__ if isinstance(small.raised, UnusableResult) else small.raised
     else:
         operation = report.describe(len(report.commands) - 1)
         kind = NotLinearizable if small.cause == ("no",) else Refused
@@ -71,10 +72,17 @@ def create_flaky(
 def _answer(setting: Setting, failure: Failure) -> Tuple[str, str]:
     """Returns what a replica did, and what came of it."""
     if failure.raised is not None:
-        call = f"{describe_call(setting, failure.steps[-1])} raised {failure.raised!r}"
+        call = _describe_raised(setting, failure)
         return call, call
     report = failure.recorder.failure_report(failure.text)
     return report.describe(len(report.commands) - 1), report.summarize(failure.replies[-1], None)
+
+
+def _describe_raised(setting: Setting, failure: Failure) -> str:
+    """Returns the last call, with what it raised, or what it returned that cannot be reported."""
+    raised = failure.raised
+    outcome = str(raised) if isinstance(raised, UnusableResult) else f"raised {raised!r}"
+    return f"{describe_call(setting, failure.steps[-1])} {outcome}"
 
 
 def _store(setting: Setting, failure: Failure, seed: str, path: Optional[str]) -> Tuple[str, str]:

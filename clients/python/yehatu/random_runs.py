@@ -88,7 +88,7 @@ def check_random(
     Raises:
         NotLinearizable: A run has a violation.
         Refused: The program rejected a report.
-        ReplicaRaised: A replica raised an exception.
+        ReplicaRaised: A replica raised an exception, or its `read()` returned what cannot be reported.
         FlakyRun: A run failed, and the same steps did not fail in the same way again.
 
     The failed run is shrunk first. The message has the seed, the small history, the faults of the network that are at

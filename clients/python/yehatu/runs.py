@@ -2,7 +2,7 @@
 from typing import List, NamedTuple, Optional, Sequence, Tuple
 
 from . import program
-from .driver import Driver, Setting
+from .driver import Driver, Setting, UnusableResult
 from .recorder import Recorder
 from .steps import Step
 
@@ -13,7 +13,8 @@ class Failure(NamedTuple):
     """A failed run, up to the step at which it failed."""
 
     cause: Tuple[str, ...]
-    """`no`; `refused` and the reason; or `raised` and the name of the exception."""
+    """`no`; `refused` and the reason; `raised` and the name of the exception; or `returned` and the type of a result
+    that cannot be reported."""
     steps: List[Step]
     recorder: Recorder
     text: str
@@ -45,6 +46,8 @@ class Run:
             )
         if raised is not None:
             cause = ("raised", type(raised).__name__)
+            if isinstance(raised, UnusableResult):
+                cause = ("returned", raised.type_name)
             return Failure(cause, driver.executed, driver.recorder, driver.text(), replies, raised)
         return None
 

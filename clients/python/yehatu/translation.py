@@ -104,9 +104,7 @@ class Translator:
         if self.kind == "counter":
             is_whole = isinstance(value, int) and not isinstance(value, bool)
             if not is_whole or not MIN_COUNT <= value <= MAX_COUNT:
-                raise NotRepresentable(
-                    f"a counter's read returned {value!r}: expected a whole number from {MIN_COUNT} to {MAX_COUNT}"
-                )
+                raise NotRepresentable(f"a counter's read returned {value!r}: expected {expected_result(self.kind)}")
             return str(int(value))
         if self.kind == "register":
             return "none" if _are_equal(value, self._nothing) else str(self._values.number_of(value))
@@ -114,7 +112,7 @@ class Translator:
             elements = iter(value)
         except TypeError:
             raise NotRepresentable(
-                f"a read returned {value!r}: expected a list or another iterable of the elements"
+                f"a read returned {value!r}: expected {expected_result(self.kind)}"
             ) from None
         numbers = [*map(self.number_of, elements)]
         return _join_numbers(numbers if self.kind == "rga" else _sort_unique(numbers))
@@ -167,6 +165,15 @@ class Translator:
         """Describes the identifiers with these numbers."""
         things = map(self.identifiers.thing_of, numbers)
         return ", ".join("an unnamed one" if it is None else repr(it) for it in things) or "none"
+
+
+def expected_result(kind: str) -> str:
+    """Describes what a read of this kind has to return."""
+    if kind == "counter":
+        return f"a whole number from {MIN_COUNT} to {MAX_COUNT}"
+    if kind == "register":
+        return "a value that can be a key of a dictionary"
+    return "a list or another iterable of the elements, which can be keys of a dictionary"
 
 
 def _constant(fields: str) -> Formatter:
