@@ -289,7 +289,7 @@ export interface RandomOptions {
   weights?: { readonly [method: string]: number };
   /** The path of the program. The default is that of RA_MONITOR, else the repository's own `ra_monitor`. */
   program?: string;
-  /** The file for the steps of a failure. By default it is a temporary one beside the history. */
+  /** The file for the steps of a failure, whose folder exists. By default it is a temporary one beside the history. */
   failure?: string;
 }
 

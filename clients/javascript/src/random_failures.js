@@ -1,4 +1,6 @@
 // The error for a failed random run: its message and its files.
+import { accessSync, constants, existsSync, statSync } from "node:fs";
+import { dirname } from "node:path";
 import { inspect } from "node:util";
 import { UnusableResult } from "./driver.js";
 import { FlakyRun, NotLinearizable, Refused, ReplicaRaised } from "./errors.js";
@@ -92,6 +94,41 @@ function storeFailure(setting, failure, seed, path) {
   const { kind, replicas, profile } = setting;
   store(steps, { seed, kind, replicas, profile, steps: failure.steps, cause: failure.cause, history: failure.text });
   return [history, steps];
+}
+
+/** Throws `RangeError` if the steps cannot be written to this file, or the history to the one beside it. */
+export function requireWritable(path) {
+  const given = `failure: ${inspect(path)}`;
+  if (typeof path !== "string" || path === "") {
+    throw new RangeError(`${given}: expected the path of a file, such as 'failure.json'`);
+  }
+  const folder = dirname(path);
+  if (!isFolder(folder)) {
+    const problem = existsSync(folder) ? "is no folder" : "does not exist";
+    throw new RangeError(
+      `${given}: the folder ${inspect(folder)} ${problem}, so no failure could be stored: create it, or pass another ` +
+        "path",
+    );
+  }
+  for (const it of [path, beside(path)]) {
+    if (isFolder(it)) throw new RangeError(`${given}: ${inspect(it)} is a folder: expected the path of a file`);
+    if (canWrite(existsSync(it) ? it : folder)) continue;
+    throw new RangeError(
+      `${given}: ${inspect(it)} cannot be written: change the permissions of the file or its folder, or pass another ` +
+        "path",
+    );
+  }
+}
+
+const isFolder = (path) => statSync(path, { throwIfNoEntry: false })?.isDirectory() ?? false;
+
+function canWrite(path) {
+  try {
+    accessSync(path, constants.W_OK);
+    return true;
+  } catch {
+    return false;
+  }
 }
 
 const beside = (path) => `${path.replace(/\.[^./]*$/, "")}.rah`;

@@ -5,7 +5,7 @@ import { operationsOf } from "./operations.js";
 import { Planner, formatSeed, parseSeed } from "./plans.js";
 import { defaultNames, hasMethod, replicaMaker, traitsOf } from "./profile.js";
 import * as programs from "./program.js";
-import { createError, createFlaky } from "./random_failures.js";
+import { createError, createFlaky, requireWritable } from "./random_failures.js";
 import { Run, findFailure, isSameCause } from "./runs.js";
 import { shrink } from "./shrinking.js";
 import { METHOD_OF, renumbered } from "./steps.js";
@@ -61,6 +61,7 @@ export async function checkRandom(makeReplica, kind, replicas = 3, operations = 
   const chosen = isOptions ? replicas : { ...options, replicas, operations, seeds };
   const { program, failure, weights, ...promised } = chosen;
   const checked = checkArguments(chosen);
+  if (failure !== undefined) requireWritable(failure);
   const make = replicaMaker(makeReplica);
   const traits = traitsOf(make, kind, checked.names[0], promised, weights);
   const setting = {

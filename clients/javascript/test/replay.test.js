@@ -1,7 +1,7 @@
 // Failures that are run again: seeds with versions, stored steps, regression tests, and runs that do not repeat.
 import assert from "node:assert/strict";
 import { spawnSync } from "node:child_process";
-import { mkdtempSync, readFileSync, readdirSync, rmSync, writeFileSync } from "node:fs";
+import { mkdirSync, mkdtempSync, readFileSync, readdirSync, rmSync, writeFileSync } from "node:fs";
 import { tmpdir } from "node:os";
 import { extname, join } from "node:path";
 import { test } from "node:test";
@@ -151,6 +151,29 @@ test("a failure is stored at a given path", () =>
     const failed = await failureOf(TIES, "register", { failure: path });
     assert.deepEqual([failed.steps, readdirSync(folder).sort()], [path, ["register.json", "register.rah"]]);
     await assert.rejects(replay(TIES, path), NotLinearizable);
+  }));
+
+test("a path that cannot be written is rejected before the runs", () =>
+  inFolder(async (folder) => {
+    const [missing, file] = [join(folder, "no", "such"), join(folder, "file")];
+    writeFileSync(file, "");
+    mkdirSync(join(folder, "history.rah"));
+    let made = 0;
+    const make = (name) => {
+      made += 1;
+      return new TIES(name);
+    };
+    for (const [path, problem] of [
+      [join(missing, "x.json"), `the folder '${missing}' does not exist, so no failure could be stored: create it, or`],
+      [join(file, "x.json"), `the folder '${file}' is no folder`], ["", "expected the path of a file"],
+      [folder, "is a folder: expected the path of a file"],
+      [join(folder, "history.json"), "history.rah' is a folder: expected"],
+    ]) {
+      const failed = await checkRandom(make, "register", { failure: path }).catch((fault) => fault);
+      assert.ok(failed instanceof RangeError, failed);
+      assert.ok(failed.message.startsWith(`failure: '${path}': `) && failed.message.includes(problem), failed.message);
+    }
+    assert.deepEqual([readdirSync(folder).sort(), made], [["file", "history.rah"], 0]);
   }));
 
 test("a file that is no failure is rejected", async () => {

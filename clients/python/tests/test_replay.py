@@ -1,6 +1,7 @@
 """Failures that are run again: seeds with versions, stored steps, regression tests, and runs that do not repeat."""
 import json
 import os
+import re
 import subprocess
 import sys
 import tempfile
@@ -164,6 +165,28 @@ class StoredFailures(unittest.TestCase):
             self.assertEqual((failed.steps, sorted(os.listdir(folder))), (path, ["register.json", "register.rah"]))
             with self.assertRaises(NotLinearizable):
                 replay(TIES, path)
+
+    def test_a_path_that_cannot_be_written_is_rejected_before_the_runs(self) -> None:
+        made = []
+
+        def make(name: str) -> Any:
+            made.append(name)
+            return TIES(name)
+
+        with tempfile.TemporaryDirectory() as folder:
+            missing, file = os.path.join(folder, "no", "such"), os.path.join(folder, "file")
+            Path(file).write_text("")
+            os.mkdir(os.path.join(folder, "history.rah"))
+            for path, problem in [
+                (os.path.join(missing, "x.json"), f"the folder {missing!r} does not exist, .*: create it, or pass"),
+                (os.path.join(file, "x.json"), f"the folder {file!r} is no folder"),
+                ("", "expected the path of a file"), (folder, "is a folder: expected the path of a file"),
+                (os.path.join(folder, "history.json"), "history.rah' is a folder: expected"),
+            ]:
+                with self.subTest(path=path), self.assertRaises(ValueError) as caught:
+                    check_random(make, "register", failure=path)
+                self.assertRegex(str(caught.exception), f"^failure={re.escape(repr(path))}: .*{problem}")
+            self.assertEqual((sorted(os.listdir(folder)), made), (["file", "history.rah"], []))
 
     def test_a_file_that_is_no_failure_is_rejected(self) -> None:
         good: Dict[str, Any] = json.loads(Path(known_failure(TIES, "register").steps or "").read_text())

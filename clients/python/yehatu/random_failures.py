@@ -95,6 +95,27 @@ def _store(setting: Setting, failure: Failure, seed: str, path: Optional[str]) -
     return history, steps
 
 
+def require_writable(path: str) -> None:
+    """Raises `ValueError` if the steps cannot be written to this file, or the history to the one beside it."""
+    given = f"failure={path!r}"
+    if not path:
+        raise ValueError(f"{given}: expected the path of a file, such as 'failure.json'")
+    folder = os.path.dirname(path) or os.curdir
+    if not os.path.isdir(folder):
+        problem = "is no folder" if os.path.exists(folder) else "does not exist"
+        raise ValueError(
+            f"{given}: the folder {folder!r} {problem}, so no failure could be stored: create it, or pass another path"
+        )
+    for it in (path, _beside(path)):
+        if os.path.isdir(it):
+            raise ValueError(f"{given}: {it!r} is a folder: expected the path of a file")
+        if not os.access(it if os.path.exists(it) else folder, os.W_OK):
+            raise ValueError(
+                f"{given}: {it!r} cannot be written: change the permissions of the file or its folder, or pass another "
+                "path"
+            )
+
+
 def _beside(path: str) -> str:
     return f"{os.path.splitext(path)[0]}.rah"
 

@@ -11,7 +11,7 @@ from .operations import operations_of
 from .plans import Planner, Seed, format_seed, parse_seed
 from .profile import Traits, default_names, traits_of
 from .program import Program
-from .random_failures import create_error, create_flaky
+from .random_failures import create_error, create_flaky, require_writable
 from .runs import Failure, Run, Setting, find_failure
 from .shrinking import shrink
 from .steps import METHOD_OF, Step, renumbered
@@ -77,7 +77,8 @@ def check_random(
         late_states: Whether a state may be merged later than it was taken. By default, a type that merges promises it.
         restarts: Whether a replica restarts from what it saved. By default, one with `save()` and `load(saved)` does.
         weights: The relative frequency of each method, such as `{"remove": 3}`.
-        failure: The file for the steps of a failure. By default it is a temporary one beside the history.
+        failure: The file for the steps of a failure, whose folder exists. By default it is a temporary one beside the
+            history.
 
     An update returns the message that the other replicas receive. The message has, as attributes or keys, the `stamp`
     of a write, of an LWW set's update or of an insertion, and the `identifier` or `identifiers` of an OR-Set's update
@@ -90,11 +91,14 @@ def check_random(
         Refused: The program rejected a report.
         ReplicaRaised: A replica raised an exception, or its `read()` returned what cannot be reported.
         FlakyRun: A run failed, and the same steps did not fail in the same way again.
+        ValueError: An argument is wrong, for instance `failure` a file that cannot be written.
 
     The failed run is shrunk first. The message has the seed, the small history, the faults of the network that are at
     work in it, and a test of its own. `history` is the file with the history, and `steps` the one for `replay`.
     """
     names, count, chosen = _checked_arguments(replicas, operations, seeds)
+    if failure is not None:
+        require_writable(failure)
     promised = {"delivery": delivery, "duplicates": duplicates, "late_states": late_states, "restarts": restarts}
     traits = traits_of(make_replica, kind, names[0], promised, weights)
     setting = Setting(make_replica, kind, names, programs.find_for_many_runs(program), traits.profile)
