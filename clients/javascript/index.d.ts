@@ -326,8 +326,9 @@ export class Runs {
  * An update returns the message that the other replicas receive. The message has the `stamp` of a write, of an LWW
  * set's update or of an insertion, and the `identifier` or `identifiers` of an OR-Set's update if the type exposes
  * them. A type whose states are merged has `state()` and `merge(state)` instead of `receive`. If a replica has
- * `fork(name)`, which returns a copy of it under this name, some replicas join during the run. If the methods of a
- * counter take an amount `by`, amounts up to 256 are tried.
+ * `fork(name)`, which returns a copy of it under this name, some replicas join during the run. If the first parameter
+ * of each update of a counter is named `by`, it is an amount, and amounts up to 256 are tried. No argument is passed
+ * for a parameter of another name, which needs a default: otherwise the call rejects with `TypeError`.
  *
  * Rejects with `NotLinearizable` if a run has a violation, with `Refused` if the program rejected a report, with
  * `ReplicaRaised` if a replica threw an error or its `read()` returned what cannot be reported, and with `FlakyRun` if

@@ -5,8 +5,11 @@ import { operationsOf } from "./operations.js";
 export const DELIVERIES = ["causal", "any"];
 // The relative frequency of each method, unless the caller chooses others.
 export const WEIGHTS = { increment: 1, decrement: 1, write: 1, add: 2, remove: 1, insertAfter: 3 };
-// A method whose first parameter is the amount.
-const TAKES_AMOUNT = /^[^(]*\(\s*by\b/;
+/** Which parameter of a counter's update is an amount. */
+export const AMOUNT_RULE = "an amount is the first parameter of each update and is named `by`";
+// The first parameter of a method or of an arrow function, and the parameter behind an amount.
+const FIRST_PARAMETER = /^(?:(?:async\s+)?([\w$]+)\s*=>|[^(]*\(\s*([\w$]+))/;
+const NEXT_PARAMETER = /^(?!(?:async\s+)?[\w$]+\s*=>)[^(]*\(\s*by\b[^,)]*,\s*([\w$]+)/;
 const LETTERS = "abcdefghijklmnopqrstuvwxyz";
 
 /**
@@ -19,8 +22,8 @@ export function makeProfile({ delivery = "causal", duplicates = false, lateState
 
 /**
  * Creates the traits of a class, on which its plans depend: the operations of its kind that it has, whether it merges
- * states instead of receiving messages, whether its replicas fork, whether its operations take an amount `by`, what it
- * promises, and the relative frequency of each method.
+ * states instead of receiving messages, whether its replicas fork, whether the first parameter of its operations is an
+ * amount `by`, what it promises, and the relative frequency of each method.
  */
 export function makeTraits(methods, { merges = false, forks = false, amounts = false, profile, weights } = {}) {
   return { methods, merges, forks, amounts, profile: makeProfile(profile), weights: { ...WEIGHTS, ...weights } };
@@ -45,8 +48,8 @@ export function isClass(make) {
 }
 
 /**
- * Returns the traits of a class. Throws `TypeError` if it lacks a method, and `RangeError` if it cannot keep what is
- * promised.
+ * Returns the traits of a class. Throws `TypeError` if it lacks a method or a counter's update requires a parameter
+ * that is no amount, and `RangeError` if it cannot keep what is promised.
  */
 export function traitsOf(make, kind, name, promised, weights) {
   const operations = operationsOf(kind);
@@ -62,11 +65,37 @@ export function traitsOf(make, kind, name, promised, weights) {
   }
   const methods = operations.filter((it) => hasMethod(replica, it));
   const saves = hasMethod(replica, "save") && hasMethod(replica, "load");
-  const amounts = kind === "counter" && methods.every((it) => TAKES_AMOUNT.test(String(replica[it])));
+  const amounts = kind === "counter" && methods.every((it) => firstParameter(replica[it]) === "by");
   return {
     methods, merges, forks: hasMethod(replica, "fork"), amounts,
     profile: resolve(merges, saves, promised), weights: chosenWeights(methods, weights),
+    untried: kind === "counter" ? untriedParameters(replica, methods, amounts) : [],
   };
+}
+
+/** Returns the name of the first parameter, or undefined if there is none or its name is unknown. */
+function firstParameter(method) {
+  const [, ofArrow, ofMethod] = FIRST_PARAMETER.exec(String(method)) ?? [];
+  return ofArrow ?? ofMethod;
+}
+
+/**
+ * Returns the first parameter of each of a counter's updates other than the amount, behind its method. Throws
+ * `TypeError` if one is required.
+ */
+function untriedParameters(replica, methods, amounts) {
+  return methods.flatMap((name) => {
+    const method = replica[name];
+    const parameter = amounts ? NEXT_PARAMETER.exec(String(method))?.[1] : firstParameter(method);
+    // Parameters up to the first one with a default are required.
+    if (method.length > (amounts ? 1 : 0)) {
+      throw new TypeError(
+        `${name} requires the parameter ${parameter ?? "(without a name)"}, for which no argument is passed: ` +
+          `${AMOUNT_RULE}; rename the parameter, or give it a default`,
+      );
+    }
+    return parameter === undefined ? [] : [`${name}(${parameter})`];
+  });
 }
 
 /** Returns whether the replica has this method. `load` may be a static method of its class. */

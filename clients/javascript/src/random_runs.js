@@ -3,7 +3,7 @@ import { inspect } from "node:util";
 import { NotRepresentable } from "./errors.js";
 import { operationsOf } from "./operations.js";
 import { Planner, formatSeed, parseSeed } from "./plans.js";
-import { defaultNames, hasMethod, replicaMaker, traitsOf } from "./profile.js";
+import { AMOUNT_RULE, defaultNames, hasMethod, replicaMaker, traitsOf } from "./profile.js";
 import * as programs from "./program.js";
 import { createError, createFlaky, requireWritable } from "./random_failures.js";
 import { Run, findFailure, isSameCause } from "./runs.js";
@@ -148,6 +148,10 @@ function resultOf(runs, kind, traits) {
   const unused = operationsOf(kind).filter((it) => !traits.methods.includes(it));
   if (unused.length > 0) {
     process.stderr.write(`checkRandom ${kind}: the type has no ${unused.join(", ")}, so it was not tried\n`);
+  }
+  if (traits.untried.length > 0) {
+    const untried = traits.untried.join(", ");
+    process.stderr.write(`checkRandom ${kind}: no argument was tried for ${untried}: ${AMOUNT_RULE}\n`);
   }
   return new Runs(runs, unused);
 }

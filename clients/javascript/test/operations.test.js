@@ -314,3 +314,67 @@ test("amounts are tried if the methods take them", async () => {
   assert.equal((await checkRandom(Counting, "counter", { seeds: 40 })).runs, 40);
   assert.ok([1, 2, 128, 256].every((it) => amounts.has(it)));
 });
+
+test("a parameter that is no amount is named", async () => {
+  class Optional extends Counter {
+    increment(amount = 1) {
+      return this.step(amount);
+    }
+  }
+  class Noted extends Counter {
+    increment(by = 1, note = "") {
+      return this.step(by, note);
+    }
+
+    decrement(by = 1, ...others) {
+      return this.step(-by, others);
+    }
+  }
+  class Uneven extends Counter {
+    increment = (by = 1) => this.step(by);
+  }
+  class Unbraced extends Counter {
+    increment = by => this.step(by, "note");
+    decrement = by => this.step(-by, "note");
+  }
+  const cases = [
+    ...[[Optional, "increment(amount)"], [Noted, "increment(note)"], [Uneven, "increment(by)"]],
+    ...[[Unbraced, null], [Counter, null]],
+  ];
+  for (const [Replica, named] of cases) {
+    const written = await captureStderr(async () => {
+      assert.equal((await checkRandom(Replica, "counter", { seeds: 3 })).runs, 3);
+    });
+    const rule = "an amount is the first parameter of each update and is named `by`";
+    const warning = `checkRandom counter: no argument was tried for ${named}: ${rule}`;
+    assert.deepEqual(written.split("\n").filter((it) => it.includes("no argument")), named === null ? [] : [warning]);
+  }
+});
+
+test("a required parameter that is no amount is rejected", async () => {
+  class Amount extends Counter {
+    increment(amount) {
+      return this.step(amount);
+    }
+  }
+  class Uneven extends Counter {
+    increment = (by) => this.step(by);
+  }
+  class Unbraced extends Counter {
+    increment = async amount => this.step(amount);
+  }
+  for (const [Replica, name] of [[Amount, "amount"], [Uneven, "by"], [Unbraced, "amount"]]) {
+    const failed = await checkRandom(Replica, "counter").catch((fault) => fault);
+    assert.ok(failed instanceof TypeError, failed);
+    const expected = `increment requires the parameter ${name}, for which no argument is passed: an amount is `;
+    assert.ok(failed.message.startsWith(expected) && failed.message.includes("`by`"), failed.message);
+  }
+  class Right extends Counter {
+    increment = by => this.step(by);
+
+    decrement(by) {
+      return this.step(-by);
+    }
+  }
+  assert.equal((await checkRandom(Right, "counter", { seeds: 3 })).runs, 3);
+});

@@ -281,6 +281,57 @@ class Methods(unittest.TestCase):
         self.assertEqual(check_random(Counting, "counter", seeds=20), 20)
         self.assertLessEqual({1, 2, 128, 256}, {*amounts})
 
+    def test_a_parameter_that_is_no_amount_is_named(self) -> None:
+        class Optional(Counter):
+            def increment(self, amount: int = 1) -> Message:
+                return self.step(amount)
+
+        class Noted(Counter):
+            def increment(self, by: int = 1, note: str = "") -> Message:
+                return self.step(by)
+
+            def decrement(self, by: int = 1, *others: Any) -> Message:
+                return self.step(-by)
+
+        class Uneven(Counter):
+            def increment(self, by: int = 1) -> Message:
+                return self.step(by)
+
+        for make, named in (
+            (Optional, "increment(amount)"), (Noted, "increment(note)"), (Uneven, "increment(by)"), (Counter, None),
+        ):
+            stderr = io.StringIO()
+            with self.subTest(make=make.__name__), contextlib.redirect_stderr(stderr):
+                self.assertEqual(check_random(make, "counter", seeds=3), 3)
+                rule = "an amount is the first parameter of each update and is named `by`"
+                warning = f"check_random counter: no argument was tried for {named}: {rule}\n"
+                self.assertEqual([warning] if named else [], [
+                    it for it in stderr.getvalue().splitlines(True) if "no argument" in it
+                ])
+
+    def test_a_required_parameter_that_is_no_amount_is_rejected(self) -> None:
+        class Amount(Counter):
+            def increment(self, amount: int) -> Message:  # type: ignore[override]
+                return self.step(amount)
+
+        class Uneven(Counter):
+            def increment(self, by: int) -> Message:  # type: ignore[override]
+                return self.step(by)
+
+        for make, name in (Amount, "amount"), (Uneven, "by"):
+            expected = f"increment requires the parameter {name}, for which no argument is passed: an amount is .* `by`"
+            with self.subTest(name=name), self.assertRaisesRegex(TypeError, expected):
+                check_random(make, "counter")
+
+        class Right(Counter):
+            def increment(self, by: int) -> Message:  # type: ignore[override]
+                return self.step(by)
+
+            def decrement(self, by: int) -> Message:  # type: ignore[override]
+                return self.step(-by)
+
+        self.assertEqual(check_random(Right, "counter", seeds=3), 3)
+
 
 if __name__ == "__main__":
     unittest.main()

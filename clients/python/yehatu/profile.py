@@ -5,6 +5,8 @@ from typing import Any, Callable, Dict, Hashable, List, Mapping, NamedTuple, Opt
 from .operations import operations_of
 
 DELIVERIES = ("causal", "any")
+# Which parameter of a counter's update is an amount.
+AMOUNT_RULE = "an amount is the first parameter of each update and is named `by`"
 # The relative frequency of each method, unless the caller chooses others.
 WEIGHTS = {"increment": 1.0, "decrement": 1.0, "write": 1.0, "add": 2.0, "remove": 1.0, "insert_after": 3.0}
 
@@ -32,17 +34,19 @@ class Traits(NamedTuple):
     forks: bool = False
     """Whether a replica joins as a copy of another one."""
     amounts: bool = False
-    """Whether `increment` and `decrement` take an amount `by`."""
+    """Whether the first parameter of `increment` and `decrement` is an amount `by`."""
     profile: Profile = Profile()
     weights: Mapping[str, float] = WEIGHTS
+    untried: Tuple[str, ...] = ()
+    """The parameters of a counter's updates for which no argument is passed, each behind its method."""
 
 
 def traits_of(
     make_replica: Callable[[Hashable], Any], kind: str, name: Hashable, promised: Mapping[str, Any],
     weights: Optional[Mapping[str, float]],
 ) -> Traits:
-    """Returns the traits of a class. Raises `TypeError` if it lacks a method, and `ValueError` if it cannot keep what
-    is promised."""
+    """Returns the traits of a class. Raises `TypeError` if it lacks a method or a counter's update requires a parameter
+    that is no amount, and `ValueError` if it cannot keep what is promised."""
     operations = operations_of(kind)
     replica = make_replica(name)
     merges = not _has(replica, "receive") and _has(replica, "merge")
@@ -58,7 +62,9 @@ def traits_of(
     saves = _has(replica, "save") and _has(replica, "load")
     profile = _resolve(merges, saves, **promised)
     amounts = kind == "counter" and all(_takes_amount(getattr(replica, it)) for it in methods)
-    return Traits(methods, merges, _has(replica, "fork"), amounts, profile, _chosen_weights(methods, weights))
+    untried = _untried_parameters(replica, methods, amounts) if kind == "counter" else ()
+    chosen = _chosen_weights(methods, weights)
+    return Traits(methods, merges, _has(replica, "fork"), amounts, profile, chosen, untried)
 
 
 def _has(replica: Any, method: str) -> bool:
@@ -82,10 +88,31 @@ def _resolve(
 
 
 def _takes_amount(method: Callable[..., Any]) -> bool:
+    return any(it.name == "by" and it.kind is not it.KEYWORD_ONLY for it in _parameters(method)[:1])
+
+
+def _parameters(method: Callable[..., Any]) -> List[inspect.Parameter]:
+    """Returns the parameters of a method, without those that collect any arguments."""
     try:
-        return "by" in inspect.signature(method).parameters
+        found = inspect.signature(method).parameters.values()
     except (TypeError, ValueError):
-        return False
+        return []
+    return [it for it in found if it.kind not in (it.VAR_POSITIONAL, it.VAR_KEYWORD)]
+
+
+def _untried_parameters(replica: Any, methods: Sequence[str], amounts: bool) -> Tuple[str, ...]:
+    """Returns the parameters of a counter's updates other than the amount. Raises `TypeError` if one is required."""
+    untried: List[str] = []
+    for method in methods:
+        others = _parameters(getattr(replica, method))[1 if amounts else 0 :]
+        required = next((it.name for it in others if it.default is it.empty), None)
+        if required is not None:
+            raise TypeError(
+                f"{method} requires the parameter {required}, for which no argument is passed: {AMOUNT_RULE}; rename "
+                "the parameter, or give it a default"
+            )
+        untried += [f"{method}({it.name})" for it in others]
+    return tuple(untried)
 
 
 def _chosen_weights(methods: Sequence[str], weights: Optional[Mapping[str, float]]) -> Dict[str, float]:

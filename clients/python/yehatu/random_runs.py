@@ -9,7 +9,7 @@ from . import program as programs
 from .errors import NotRepresentable
 from .operations import operations_of
 from .plans import Planner, Seed, format_seed, parse_seed
-from .profile import Traits, default_names, traits_of
+from .profile import AMOUNT_RULE, Traits, default_names, traits_of
 from .program import Program
 from .random_failures import create_error, create_flaky, require_writable
 from .runs import Failure, Run, Setting, find_failure
@@ -84,13 +84,15 @@ def check_random(
     of a write, of an LWW set's update or of an insertion, and the `identifier` or `identifiers` of an OR-Set's update
     if the type exposes them. A type whose states are merged has `state()` and `merge(state)` instead of `receive`. If
     a replica has `fork(name)`, which returns a copy of it under this name, some replicas join during the run. If the
-    methods of a counter take an amount `by`, amounts up to 256 are tried.
+    first parameter of each update of a counter is named `by`, it is an amount, and amounts up to 256 are tried. No
+    argument is passed for a parameter of another name, which needs a default.
 
     Raises:
         NotLinearizable: A run has a violation.
         Refused: The program rejected a report.
         ReplicaRaised: A replica raised an exception, or its `read()` returned what cannot be reported.
         FlakyRun: A run failed, and the same steps did not fail in the same way again.
+        TypeError: The class lacks a method, or an update of a counter requires a parameter of another name than `by`.
         ValueError: An argument is wrong, for instance `failure` a file that cannot be written.
 
     The failed run is shrunk first. The message has the seed, the small history, the faults of the network that are at
@@ -169,6 +171,9 @@ def _result(runs: int, kind: str, traits: Traits) -> Runs:
     result.unused = tuple(it for it in operations_of(kind) if it not in traits.methods)
     if result.unused:
         print(f"check_random {kind}: the type has no {', '.join(result.unused)}, so it was not tried", file=sys.stderr)
+    if traits.untried:
+        untried = ", ".join(traits.untried)
+        print(f"check_random {kind}: no argument was tried for {untried}: {AMOUNT_RULE}", file=sys.stderr)
     return result
 
 
