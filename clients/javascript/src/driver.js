@@ -39,7 +39,8 @@ export class Driver {
   #names;
   #replicas = new Map();
   #state;
-  #messages = new Map();
+  /** What each update returned, by its number. */
+  messages = new Map();
   // For each state that was taken early: the state, its replica, and what was in it.
   #early = new Map();
   // What each replica saved, and the calls with what it received since then.
@@ -109,7 +110,7 @@ export class Driver {
   async #update(step) {
     if (!this.#state.canUpdate(step)) return false;
     const message = await this.#call(step.replica, step.method, ...step.arguments);
-    this.#messages.set(step.number, message);
+    this.messages.set(step.number, message);
     const name = this.#names[step.replica];
     if (this.#kind === "counter") {
       await this.recorder[step.method](name, { by: step.arguments[0], message: step.number });
@@ -123,7 +124,7 @@ export class Driver {
 
   async #deliver({ replica, number }) {
     if (!this.#state.canDeliver(replica, number)) return false;
-    await this.#hand(replica, "receive", this.#messages.get(number));
+    await this.#hand(replica, "receive", this.messages.get(number));
     await this.recorder.deliver(this.#names[replica], number);
     this.#state.deliver(replica, number);
     return true;
@@ -133,7 +134,7 @@ export class Driver {
     if (!this.#state.canArrive(replica, number)) return false;
     const cause = this.#state.missingCause(replica, number);
     if (cause) this.#note(replica, `receives message ${number} before message ${cause}, on which it depends`);
-    await this.#hand(replica, "receive", this.#messages.get(number));
+    await this.#hand(replica, "receive", this.messages.get(number));
     for (const it of this.#state.arrive(replica, number)) await this.recorder.deliver(this.#names[replica], it);
     return true;
   }
@@ -141,7 +142,7 @@ export class Driver {
   async #duplicate({ replica, number }) {
     if (!this.#state.canRepeat(replica, number)) return false;
     this.#note(replica, `receives message ${number} again`);
-    await this.#call(replica, "receive", this.#messages.get(number));
+    await this.#call(replica, "receive", this.messages.get(number));
     return true;
   }
 

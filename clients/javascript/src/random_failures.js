@@ -7,6 +7,7 @@ import { FlakyRun, NotLinearizable, Refused, ReplicaRaised } from "./errors.js";
 import { saveHistory } from "./failure_report.js";
 import { describeFaults } from "./faults.js";
 import { regressionTest } from "./regression.js";
+import { RECEIVING } from "./steps.js";
 import { store } from "./stored.js";
 
 // The largest number of lines of a history that a message shows.
@@ -38,7 +39,7 @@ export function createError(setting, small, { seed, summary, failure, stored }) 
   const details = parts.join("\n").trimEnd();
   const error = small.raised === undefined
     ? createRejected(report, small, history, `${first}${report.summarize(reply, explanation)}\n${details}`)
-    : createRaised(small, history, describeRaised(setting, small), { first, details });
+    : createRaised(setting, small, history, { first, details });
   error.steps = path;
   return error;
 }
@@ -49,10 +50,12 @@ function createRejected(report, small, history, message) {
   return new Kind(message, operation, small.replies.at(-1), history);
 }
 
-function createRaised(small, history, call, { first, details }) {
+function createRaised(setting, small, history, { first, details }) {
+  const call = describeRaised(setting, small);
+  const origin = describeMessage(setting, small);
   const { error } = small.raised;
   const cause = error instanceof UnusableResult ? error.cause : error;
-  return new ReplicaRaised(`${first}${call}\n${details}`, call, "", history, { cause });
+  return new ReplicaRaised(`${first}${call}\n${origin}${details}`, call, "", history, { cause });
 }
 
 /** Creates the error for a run that did not fail in the same way again. */
@@ -85,6 +88,17 @@ function describeRaised(setting, failure) {
   const { error } = failure.raised;
   const outcome = error instanceof UnusableResult ? error.message : `threw ${error}`;
   return `${describeCall(setting, failure.steps.at(-1))} ${outcome}`;
+}
+
+/** Returns a line that says which call returned the message that the last call received, if it received one. */
+function describeMessage(setting, { steps, messages }) {
+  const { action, number } = steps.at(-1);
+  if (!RECEIVING.includes(action)) return "";
+  const update = steps.find((it) => it.action === "update" && it.number === number);
+  const line = `message ${number} was returned by ${describeCall(setting, update)}`;
+  const message = messages.get(number);
+  if (message !== undefined && message !== null) return `${line}\n`;
+  return `${line}, and is ${message}: an update returns the message that the other replicas receive\n`;
 }
 
 /** Writes the history and the steps, and returns both paths. */

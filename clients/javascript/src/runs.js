@@ -41,7 +41,8 @@ export class Run {
     const { error } = this.#raised;
     const isResult = error instanceof UnusableResult;
     const cause = isResult ? ["returned", error.typeName] : ["raised", String(error?.name)];
-    return { ...found, cause, steps: driver.executed, text: driver.text(), replies, raised: this.#raised };
+    const { executed: steps, messages } = driver;
+    return { ...found, cause, steps, text: driver.text(), replies, raised: this.#raised, messages };
   }
 
   /** Ends the check without its result. */

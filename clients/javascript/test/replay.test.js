@@ -287,6 +287,43 @@ test("a regression test without an assertion replays the stored run", async () =
   assert.equal((await runSource(source, right)).status, 0);
 });
 
+test("an error in receive names the call that returned the message", async () => {
+  class ReturnsNothing extends Counter {
+    increment() {
+      super.increment();
+    }
+  }
+  class ReceivesNothing extends Counter {
+    receive() {
+      throw new TypeError("no messages");
+    }
+  }
+  class CountsOnce extends Counter {
+    received = false;
+
+    receive(message) {
+      if (this.received) throw new TypeError("again");
+      this.received = true;
+      super.receive(message);
+    }
+  }
+  const nothing = ", and is undefined: an update returns the message that the other replicas receive";
+  for (const [Replica, options, received, line] of [
+    [ReturnsNothing, {}, /^'.': receive\(message 1\) threw TypeError/, `'.': increment\\(\\)${nothing}`],
+    [ReceivesNothing, {}, /^'.': receive\(message 1\) threw TypeError/, "'.': (in|de)crement\\(\\)"],
+    [CountsOnce, { duplicates: true }, /^'.': receive\(message \d\)( again)? threw/, "'.': (in|de)crement\\(\\)"],
+  ]) {
+    const failed = await failureOf(Replica, "counter", options);
+    assert.match(failed.operation, received);
+    const [, second] = failed.message.split("\n");
+    assert.match(second, new RegExp(`^message \\d was returned by ${line}$`));
+    const again = await replay(Replica, failed.steps).catch((fault) => fault);
+    assert.equal(again.message.split("\n")[1], second);
+  }
+  // An error in another call names no message.
+  assert.doesNotMatch((await failureOf(Stuttering, "counter")).message, /was returned by/);
+});
+
 test("a result that cannot be reported is a failure", async () => {
   for (const [result, shown, type] of [[NaN, "NaN", "number"], [2.5, "2\\.5", "number"], [null, "null", "null"]]) {
     // Its read returns this result for 2.

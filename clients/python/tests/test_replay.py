@@ -272,6 +272,43 @@ class Messages(unittest.TestCase):
         self.assertEqual(run_source(source, name="(lambda name: saving(Register)(name))").returncode, 0)
 
 
+class ReceivedMessages(unittest.TestCase):
+    def test_an_error_in_receive_names_the_call_that_returned_the_message(self) -> None:
+        class ReturnsNothing(Counter):
+            def increment(self) -> Any:
+                super().increment()
+
+        class ReceivesNothing(Counter):
+            def receive(self, message: Any) -> None:
+                raise TypeError("no messages")
+
+        class CountsOnce(Counter):
+            received = False
+
+            def receive(self, message: Any) -> None:
+                if self.received:
+                    raise TypeError("again")
+                self.received = True
+                super().receive(message)
+
+        nothing = ", and is None: an update returns the message that the other replicas receive"
+        for make, options, received, line in [
+            (ReturnsNothing, {}, r"receive\(message 1\)", rf"'.': increment\(\){nothing}"),
+            (ReceivesNothing, {}, r"receive\(message 1\)", r"'.': (in|de)crement\(\)"),
+            (CountsOnce, {"duplicates": True}, r"receive\(message \d\)( again)?", r"'.': (in|de)crement\(\)"),
+        ]:
+            with self.subTest(make=make.__name__):
+                failed = failure_of(make, "counter", **options)
+                self.assertRegex(failed.operation, rf"^'.': {received} raised TypeError")
+                second = str(failed).splitlines()[1]
+                self.assertRegex(second, rf"^message \d was returned by {line}$")
+                with self.assertRaises(ReplicaRaised) as caught:
+                    replay(make, failed.steps or "")
+                self.assertEqual(str(caught.exception).splitlines()[1], second)
+        # An error in another call names no message.
+        self.assertNotIn("was returned by", str(failure_of(Stuttering, "counter")))
+
+
 class UnusableResults(unittest.TestCase):
     def test_a_result_that_cannot_be_reported_is_a_failure(self) -> None:
         for result, shown, cause in [

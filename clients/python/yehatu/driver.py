@@ -67,7 +67,8 @@ class Driver:
         self._names = dict(enumerate(setting.replicas))
         self._replicas = {it: setting.make_replica(self._names[it]) for it in initial}
         self._state = DeliveryState(setting.kind, len(setting.replicas))
-        self._messages: Dict[int, Any] = {}
+        self.messages: Dict[int, Any] = {}
+        """What each update returned, by its number."""
         # For each state that was taken early: the state, its replica, and what was in it.
         self._early: Dict[int, Tuple[Any, int, Seen, Tuple[int, ...]]] = {}
         self._saved: Dict[int, _Saved] = {}
@@ -119,7 +120,7 @@ class Driver:
             return False
         message = getattr(self._replicas[step.replica], step.method)(*step.arguments)
         self._require_no_coroutine(step, message)
-        self._messages[step.number] = message
+        self.messages[step.number] = message
         name = self._names[step.replica]
         if step.arguments and self._kind == "counter":
             getattr(self.recorder, step.method)(name, step.arguments[0], message=step.number)
@@ -136,7 +137,7 @@ class Driver:
             return self._deliver_in_any_order(step)
         if not self._state.can_deliver(replica, number):
             return False
-        self._hand(step, "receive", self._messages[number])
+        self._hand(step, "receive", self.messages[number])
         self.recorder.deliver(self._names[replica], number)
         self._state.deliver(replica, number)
         return True
@@ -148,7 +149,7 @@ class Driver:
         cause = self._state.missing_cause(replica, number)
         if cause:
             self._note(step, f"receives message {number} before message {cause}, on which it depends")
-        self._hand(step, "receive", self._messages[number])
+        self._hand(step, "receive", self.messages[number])
         for it in self._state.arrive(replica, number):
             self.recorder.deliver(self._names[replica], it)
         return True
@@ -157,7 +158,7 @@ class Driver:
         if not self._state.can_repeat(step.replica, step.number):
             return False
         self._note(step, f"receives message {step.number} again")
-        self._call(step, "receive", self._messages[step.number])
+        self._call(step, "receive", self.messages[step.number])
         return True
 
     def _merge(self, step: Step) -> bool:

@@ -8,7 +8,7 @@ from .failure_report import save_history
 from .faults import describe_faults
 from .regression import Expected, regression_test
 from .runs import Failure, Setting
-from .steps import Step
+from .steps import RECEIVING, Step
 from .stored import Stored, store
 
 # The largest number of lines of a history that a message shows.
@@ -42,7 +42,8 @@ def create_error(
     details = "\n".join(parts).rstrip()
     if small.raised is not None:
         call = _describe_raised(setting, small)
-        error: ReportFailed = ReplicaRaised(f"{first}{call}\n{details}", call, "", history)
+        origin = _describe_message(setting, small)
+        error: ReportFailed = ReplicaRaised(f"{first}{call}\n{origin}{details}", call, "", history)
         error.__cause__ = small.raised.__cause__ if isinstance(small.raised, UnusableResult) else small.raised
     else:
         operation = report.describe(len(report.commands) - 1)
@@ -83,6 +84,18 @@ def _describe_raised(setting: Setting, failure: Failure) -> str:
     raised = failure.raised
     outcome = str(raised) if isinstance(raised, UnusableResult) else f"raised {raised!r}"
     return f"{describe_call(setting, failure.steps[-1])} {outcome}"
+
+
+def _describe_message(setting: Setting, failure: Failure) -> str:
+    """Returns a line that says which call returned the message that the last call received, if it received one."""
+    last = failure.steps[-1]
+    if last.action not in RECEIVING:
+        return ""
+    update = next(it for it in failure.steps if it.action == "update" and it.number == last.number)
+    line = f"message {last.number} was returned by {describe_call(setting, update)}"
+    if failure.messages.get(last.number) is None:
+        line += ", and is None: an update returns the message that the other replicas receive"
+    return f"{line}\n"
 
 
 def _store(setting: Setting, failure: Failure, seed: str, path: Optional[str]) -> Tuple[str, str]:

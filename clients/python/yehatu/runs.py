@@ -1,5 +1,5 @@
 """Runs of plans on the user's own replicas, which the program checks."""
-from typing import List, NamedTuple, Optional, Sequence, Tuple
+from typing import Any, List, Mapping, NamedTuple, Optional, Sequence, Tuple
 
 from . import program
 from .driver import Driver, Setting, UnusableResult
@@ -20,6 +20,8 @@ class Failure(NamedTuple):
     text: str
     replies: List[str]
     raised: Optional[Exception] = None
+    messages: Mapping[int, Any] = {}
+    """What each update returned, by its number, if a replica raised an exception."""
 
 
 class Run:
@@ -48,7 +50,9 @@ class Run:
             cause = ("raised", type(raised).__name__)
             if isinstance(raised, UnusableResult):
                 cause = ("returned", raised.type_name)
-            return Failure(cause, driver.executed, driver.recorder, driver.text(), replies, raised)
+            return Failure(
+                cause, driver.executed, driver.recorder, driver.text(), replies, raised, driver.messages
+            )
         return None
 
     def stop(self) -> None:
