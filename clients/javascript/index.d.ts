@@ -330,8 +330,8 @@ export class Runs {
  * of each update of a counter is named `by`, it is an amount, and amounts up to 256 are tried. No argument is passed
  * for a parameter of another name, which needs a default: otherwise the call rejects with `TypeError`.
  *
- * Rejects with `NotLinearizable` if a run has a violation, with `Refused` if the program rejected a report, with
- * `ReplicaRaised` if a replica threw an error or its `read()` returned what cannot be reported, and with `FlakyRun` if
+ * Rejects with `NotLinearizable` if a run has a violation, and with `Refused` if the program rejected a report. Rejects
+ * with `ReplicaRaised` if a replica threw an error or its `read()` returned what cannot be reported, with `FlakyRun` if
  * the same steps did not fail in the same way again. The failed run is shrunk first. The message has the seed, the
  * small history, the faults of the network that are at work in it, and a test of its own. `history` is the file with
  * the history, and `steps` the one for `replay`.
