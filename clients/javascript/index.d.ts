@@ -75,9 +75,13 @@ export class Refused extends ReportFailed {
   get cause(): string;
 }
 
-/** A replica of a random run threw an error, or its `read()` returned what the text format cannot represent. */
+/**
+ * A replica of a random run threw an error, its `read()` returned what the text format cannot represent, or a message
+ * or a state changed after it was returned. The history ends before the call, and the message and the stored steps have
+ * it.
+ */
 export class ReplicaRaised extends ReportFailed {
-  /** The error that the replica threw, or `NotRepresentable`. */
+  /** The error that the replica threw, `NotRepresentable`, or undefined for a message or a state that changed. */
   cause: unknown;
 }
 
@@ -330,11 +334,15 @@ export class Runs {
  * of each update of a counter is named `by`, it is an amount, and amounts up to 256 are tried. No argument is passed
  * for a parameter of another name, which needs a default: otherwise the call rejects with `TypeError`.
  *
+ * The replicas receive the message or the state itself, so it must not change after it was returned. If its JSON shows
+ * that it did, the run fails. A state that is merged later than it was taken is copied when it is taken, as a network
+ * would do it, and so is what `save()` returns.
+ *
  * Rejects with `NotLinearizable` if a run has a violation, and with `Refused` if the program rejected a report. Rejects
- * with `ReplicaRaised` if a replica threw an error or its `read()` returned what cannot be reported, with `FlakyRun` if
- * the same steps did not fail in the same way again. The failed run is shrunk first. The message has the seed, the
- * small history, the faults of the network that are at work in it, and a test of its own. `history` is the file with
- * the history, and `steps` the one for `replay`.
+ * with `ReplicaRaised` if a replica threw an error, its `read()` returned what cannot be reported, or a message or a
+ * state changed after it was returned. Rejects with `FlakyRun` if the same steps did not fail in the same way again.
+ * The failed run is shrunk first. The message has the seed, the small history, the faults of the network that are at
+ * work in it, and a test of its own. `history` is the file with the history, and `steps` the one for `replay`.
  */
 export function checkRandom(makeReplica: MakeReplica, kind: Kind, settings?: RandomSettings): Promise<Runs>;
 /** Tests replicas in random runs, with the numbers of replicas, operations and seeds as parameters of their own. */

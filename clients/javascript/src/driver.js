@@ -5,16 +5,9 @@ import { DeliveryState } from "./delivery_state.js";
 import { NotRepresentable } from "./errors.js";
 import * as operations from "./operations.js";
 import { Recorder } from "./recorder.js";
+import { Returned, UnusableResult } from "./returned.js";
 import { COPYING } from "./steps.js";
 import { expectedResult } from "./translation.js";
-
-/** A read's result that the text format cannot represent. The `cause` is `NotRepresentable`. */
-export class UnusableResult extends Error {
-  constructor(value, expected, cause) {
-    super(`returned ${inspect(value)}: expected ${expected}`, { cause });
-    this.typeName = value === null ? "null" : typeof value;
-  }
-}
 
 /** A substitute for the monitor that collects a recorder's lines, so that one run of the program checks them. */
 class Transcript {
@@ -41,9 +34,9 @@ export class Driver {
   #state;
   /** What each update returned, by its number. */
   messages = new Map();
-  // For each state that was taken early: the state, its replica, and what was in it.
+  // For each state that was taken early: a copy, which is merged, and the object, with its replica and what was in it.
   #early = new Map();
-  // What each replica saved, and the calls with what it received since then.
+  // What each replica saved, and what it received since then: methods, each with a message or with a copy of a state.
   #saved = new Map();
   #transcript = new Transcript();
   // For each executed step, the number of lines after it.
@@ -110,7 +103,7 @@ export class Driver {
   async #update(step) {
     if (!this.#state.canUpdate(step)) return false;
     const message = await this.#call(step.replica, step.method, ...step.arguments);
-    this.messages.set(step.number, message);
+    this.messages.set(step.number, new Returned("message", step.number, message));
     const name = this.#names[step.replica];
     if (this.#kind === "counter") {
       await this.recorder[step.method](name, { by: step.arguments[0], message: step.number });
@@ -142,7 +135,7 @@ export class Driver {
   async #duplicate({ replica, number }) {
     if (!this.#state.canRepeat(replica, number)) return false;
     this.#note(replica, `receives message ${number} again`);
-    await this.#call(replica, "receive", this.messages.get(number));
+    await this.#give(replica, "receive", this.messages.get(number));
     return true;
   }
 
@@ -158,17 +151,20 @@ export class Driver {
     if (this.#early.has(number)) return false;
     const name = this.#names[replica];
     const what = `the state of ${inspect(name)}`;
-    const state = this.#copied(await this.#call(replica, "state"), what, "lateStates: false");
+    const state = await this.#call(replica, "state");
+    const copy = this.#copied(state, what, "lateStates: false");
     const seen = this.recorder.seen(name);
     seen.moment = ` of step ${this.executed.length + 1}`;
-    this.#early.set(number, { state, sender: replica, seen, counts: this.#state.counts(replica) });
+    const returned = new Returned("state", number, state);
+    this.#early.set(number, { copy, returned, sender: replica, seen, counts: this.#state.counts(replica) });
     return true;
   }
 
   async #mergeSnapshot({ replica, number }) {
     const early = this.#early.get(number);
     if (early === undefined || early.sender === replica) return false;
-    await this.#hand(replica, "merge", this.#copied(early.state));
+    early.returned.requireUnchanged();
+    await this.#hand(replica, "merge", this.#copied(early.copy));
     await this.recorder.merge(this.#names[replica], early.seen);
     this.#state.merge(replica, early.counts);
     return true;
@@ -182,7 +178,7 @@ export class Driver {
     const loaded = await this.#awaited(owner.load(this.#copied(value)));
     this.#replicas.set(replica, loaded ?? fresh);
     for (const [method, argument] of received) {
-      await this.#call(replica, method, method === "merge" ? this.#copied(argument) : argument);
+      await this.#give(replica, method, argument instanceof Returned ? argument : this.#copied(argument));
     }
     return true;
   }
@@ -219,10 +215,15 @@ export class Driver {
   /** Hands a message or a state to the replica, which receives it again after a restart. */
   #hand(replica, method, argument) {
     if (this.#profile.restarts) {
-      const kept = method === "merge" ? this.#copied(argument, "a state", "restarts: false") : argument;
+      const isMessage = argument instanceof Returned;
+      const kept = isMessage ? argument : this.#copied(argument, "a state", "restarts: false");
       this.#saved.get(replica).received.push([method, kept]);
     }
-    return this.#call(replica, method, argument);
+    return this.#give(replica, method, argument);
+  }
+
+  #give(replica, method, argument) {
+    return this.#call(replica, method, argument instanceof Returned ? argument.requireUnchanged() : argument);
   }
 
   #call(replica, method, ...parameters) {

@@ -45,7 +45,9 @@ export class Refused extends ReportFailed {
 
 /**
  * A replica of a random run threw an error, which is the `cause` of this one. A `read()` that returned what the text
- * format cannot represent counts too; the `cause` is `NotRepresentable`.
+ * format cannot represent counts too; the `cause` is `NotRepresentable`. So does a message or a state that changed
+ * after it was returned; then the `cause` is undefined. The history ends before the call, and the message and the
+ * stored steps have it.
  */
 export class ReplicaRaised extends ReportFailed {
   name = "ReplicaRaised";

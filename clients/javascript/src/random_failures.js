@@ -2,11 +2,11 @@
 import { accessSync, constants, existsSync, statSync } from "node:fs";
 import { dirname } from "node:path";
 import { inspect } from "node:util";
-import { UnusableResult } from "./driver.js";
 import { FlakyRun, NotLinearizable, Refused, ReplicaRaised } from "./errors.js";
 import { saveHistory } from "./failure_report.js";
 import { describeFaults } from "./faults.js";
 import { regressionTest } from "./regression.js";
+import { Changed, Unusable } from "./returned.js";
 import { RECEIVING } from "./steps.js";
 import { store } from "./stored.js";
 
@@ -22,6 +22,7 @@ const SHOWN_LINES = 40;
 export function createError(setting, small, { seed, summary, failure, stored }) {
   const [history, path] = stored === undefined ? storeFailure(setting, small, seed, failure) : [beside(stored), stored];
   const report = small.recorder.failureReport(small.text);
+  const operation = operationOf(setting, small);
   const reply = small.raised === undefined ? small.replies.at(-1) : "";
   const explanation = report.explain(small.text, reply, setting.program);
   const faults = describeFaults(small.steps, setting.replicas).join("; ");
@@ -38,36 +39,32 @@ export function createError(setting, small, { seed, summary, failure, stored }) 
   }
   const details = parts.join("\n").trimEnd();
   const error = small.raised === undefined
-    ? createRejected(report, small, history, `${first}${report.summarize(reply, explanation)}\n${details}`)
-    : createRaised(setting, small, history, { first, details });
+    ? createRejected(small, operation, history, `${first}${report.summarize(reply, explanation)}\n${details}`)
+    : createRaised(small, operation, history, `${first}${operation}\n${describeOrigin(setting, small)}${details}`);
   error.steps = path;
   return error;
 }
 
-function createRejected(report, small, history, message) {
-  const operation = report.describe(report.commands.length - 1);
+function createRejected(small, operation, history, message) {
   const Kind = small.cause[0] === "no" ? NotLinearizable : Refused;
   return new Kind(message, operation, small.replies.at(-1), history);
 }
 
-function createRaised(setting, small, history, { first, details }) {
-  const call = describeRaised(setting, small);
-  const origin = describeMessage(setting, small);
-  const { error } = small.raised;
-  const cause = error instanceof UnusableResult ? error.cause : error;
-  return new ReplicaRaised(`${first}${call}\n${origin}${details}`, call, "", history, { cause });
+function createRaised({ raised: { error } }, operation, history, message) {
+  const cause = error instanceof Unusable ? error.cause : error;
+  return new ReplicaRaised(message, operation, "", history, { cause });
 }
 
 /** Creates the error for a run that did not fail in the same way again. */
 export function createFlaky(setting, found, again, { seed, summary, failure }) {
   const [history, stored] = storeFailure(setting, found, seed, failure);
-  const [operation, first] = answerOf(setting, found);
-  const second = again === null ? "it passed" : answerOf(setting, again)[1];
+  const first = answerOf(setting, found);
+  const second = again === null ? "it passed" : answerOf(setting, again);
   const error = new FlakyRun(
     `${summary} failed, and the same steps did not fail in the same way again: the class is not deterministic ` +
       `(random numbers, time, the order of a set, or what replicas share)\nat one time: ${first}\n` +
       `at another time: ${second}\nthe history is ${history}, and the steps are ${stored}`,
-    operation, found.raised === undefined ? found.replies.at(-1) : "", history,
+    operationOf(setting, found), found.raised === undefined ? found.replies.at(-1) : "", history,
   );
   error.steps = stored;
   return error;
@@ -75,30 +72,33 @@ export function createFlaky(setting, found, again, { seed, summary, failure }) {
 
 /** Returns what a replica did, and what came of it. */
 function answerOf(setting, failure) {
-  if (failure.raised !== undefined) {
-    const call = describeRaised(setting, failure);
-    return [call, call];
+  if (failure.raised !== undefined) return operationOf(setting, failure);
+  return failure.recorder.failureReport(failure.text).summarize(failure.replies.at(-1), null);
+}
+
+/** Returns the last command, or the last call with what it threw, or what it returned that cannot be used. */
+function operationOf(setting, { raised, recorder, steps, text }) {
+  if (raised === undefined) {
+    const report = recorder.failureReport(text);
+    return report.describe(report.commands.length - 1);
   }
-  const report = failure.recorder.failureReport(failure.text);
-  return [report.describe(report.commands.length - 1), report.summarize(failure.replies.at(-1), null)];
+  const outcome = raised.error instanceof Unusable ? raised.error.message : `threw ${raised.error}`;
+  return `${describeCall(setting, steps.at(-1))} ${outcome}`;
 }
 
-/** Returns the last call, with what it threw, or what it returned that cannot be reported. */
-function describeRaised(setting, failure) {
-  const { error } = failure.raised;
-  const outcome = error instanceof UnusableResult ? error.message : `threw ${error}`;
-  return `${describeCall(setting, failure.steps.at(-1))} ${outcome}`;
-}
-
-/** Returns a line that says which call returned the message that the last call received, if it received one. */
-function describeMessage(setting, { steps, messages }) {
-  const { action, number } = steps.at(-1);
-  if (!RECEIVING.includes(action)) return "";
-  const update = steps.find((it) => it.action === "update" && it.number === number);
-  const line = `message ${number} was returned by ${describeCall(setting, update)}`;
-  const message = messages.get(number);
-  if (message !== undefined && message !== null) return `${line}\n`;
-  return `${line}, and is ${message}: an update returns the message that the other replicas receive\n`;
+/** Returns a line that says which call returned what the last one received, if that is a message or has changed. */
+function describeOrigin(setting, { steps, messages, raised: { error } }) {
+  const last = steps.at(-1);
+  const hasChanged = error instanceof Changed;
+  if (!hasChanged && !RECEIVING.includes(last.action)) return "";
+  const { what, number } = hasChanged ? error : { what: "message", number: last.number };
+  const action = what === "message" ? "update" : "snapshot";
+  const returning = steps.find((it) => it.action === action && it.number === number);
+  const line = `${what} ${number} was returned by ${describeCall(setting, returning)}`;
+  if (hasChanged) return `${line}${error.change}\n`;
+  const { value } = messages.get(number);
+  if (value !== undefined && value !== null) return `${line}\n`;
+  return `${line}, and is ${value}: an update returns the message that the other replicas receive\n`;
 }
 
 /** Writes the history and the steps, and returns both paths. */

@@ -1,7 +1,8 @@
 // The source of a regression test for a small run.
 import { inspect } from "node:util";
-import { UnusableResult, initialReplicas } from "./driver.js";
+import { initialReplicas } from "./driver.js";
 import { isClass } from "./profile.js";
+import { Unusable } from "./returned.js";
 import { RECEIVING } from "./steps.js";
 
 const MAX_LINES = 30;
@@ -139,8 +140,8 @@ export function regressionTest(setting, failure, { seed, expected, path }) {
   const begin = (wait) => [maker.comment, "", `test("seed ${seed}", ${wait}() => {`];
   const needed = expected === null ? imports.slice(1) : imports;
   const lines = [...needed, ...begin(failure.isAsynchronous ? "async " : ""), ...body];
-  // A read whose result cannot be reported throws nothing.
-  const says = expected !== null || (failure.raised && !(failure.raised.error instanceof UnusableResult));
+  // A read whose result cannot be reported throws nothing, and neither does a message that changed.
+  const says = expected !== null || (failure.raised && !(failure.raised.error instanceof Unusable));
   if (lines.length < MAX_LINES && says && !failure.hasInstances) return `${[...lines, "});"].join("\n")}\n`;
   const replays = [imports[1], 'import { replay } from "yehatu";', ...begin("async ")];
   return `${[...replays, `${INDENT}await replay(${maker.name}, ${JSON.stringify(path)});`, "});"].join("\n")}\n`;

@@ -1,6 +1,7 @@
 // Runs of plans on the user's own replicas, which the program checks.
-import { Driver, UnusableResult } from "./driver.js";
+import { Driver } from "./driver.js";
 import { Check } from "./program.js";
+import { Unusable } from "./returned.js";
 
 /** A run whose history is being checked. The program checks it while other runs are executed. */
 export class Run {
@@ -24,7 +25,8 @@ export class Run {
 
   /**
    * Waits for the program, and returns the failure, or null if all passed. Its cause is `["no"]`,
-   * `["refused", REASON]`, `["raised", NAME]`, or `["returned", TYPE]` for a result that cannot be reported.
+   * `["refused", REASON]`, `["raised", NAME]`, `["returned", TYPE]` for a result that cannot be reported, or
+   * `["changed", "message"]` or `["changed", "state"]`.
    */
   async findFailure() {
     const { replies } = await this.#check.wait();
@@ -39,8 +41,7 @@ export class Run {
     }
     if (this.#raised === null) return null;
     const { error } = this.#raised;
-    const isResult = error instanceof UnusableResult;
-    const cause = isResult ? ["returned", error.typeName] : ["raised", String(error?.name)];
+    const cause = error instanceof Unusable ? error.failure : ["raised", String(error?.name)];
     const { executed: steps, messages } = driver;
     return { ...found, cause, steps, text: driver.text(), replies, raised: this.#raised, messages };
   }

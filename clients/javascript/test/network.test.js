@@ -83,7 +83,7 @@ test("correct replicas raise no false alarm on any network", async (t) => {
 test("a saved value and a late state are copied", async () => {
   const loaded = [];
   const merged = [];
-  /** Hands out its own object. */
+  /** Saves its own object. */
   class Live extends MergedCounter {
     save() {
       return this.steps;
@@ -92,10 +92,6 @@ test("a saved value and a late state are copied", async () => {
     load(saved) {
       this.steps = saved;
       loaded.push(this.read());
-    }
-
-    state() {
-      return [this.name, this.steps];
     }
 
     merge(state) {

@@ -107,7 +107,7 @@ export class MergedLwwSet extends LwwSet {
   receive = undefined;
 
   state() {
-    return this.last;
+    return new Map(this.last);
   }
 
   merge(state) {

@@ -121,7 +121,7 @@ class MergedLwwSet(Clocked):
         return {"stamp": stamp}
 
     def state(self) -> Dict[int, Tuple[Tuple[int, str], bool]]:
-        return self.last
+        return dict(self.last)
 
     def merge(self, state: Dict[int, Tuple[Tuple[int, str], bool]]) -> None:
         for element, entry in state.items():

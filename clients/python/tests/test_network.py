@@ -74,7 +74,7 @@ class CorrectReplicas(unittest.TestCase):
         merged: List[int] = []
 
         class Live(MergedCounter):
-            """Hands out its own dictionary."""
+            """Saves its own dictionary."""
 
             def save(self) -> Any:
                 return self.steps
@@ -82,9 +82,6 @@ class CorrectReplicas(unittest.TestCase):
             def load(self, saved: Any) -> None:
                 self.steps = saved
                 loaded.append(self.read())
-
-            def state(self) -> Any:
-                return self.name, self.steps
 
             def merge(self, state: Any) -> None:
                 merged.append(sum(up - down for up, down in state[1].values()))

@@ -10,6 +10,7 @@ from .errors import NotRepresentable
 from .operations import Operation
 from .profile import Profile
 from .recorder import Recorder, Seen
+from .returned import Returned, UnusableResult
 from .steps import COPYING, Step
 from .translation import expected_result
 
@@ -22,14 +23,6 @@ class Setting(NamedTuple):
     replicas: Sequence[Hashable]
     program: str
     profile: Profile = Profile()
-
-
-class UnusableResult(Exception):
-    """A read's result that the text format cannot represent."""
-
-    def __init__(self, value: Any, expected: str) -> None:
-        super().__init__(f"returned {value!r}: expected {expected}")
-        self.type_name = type(value).__name__
 
 
 class Transcript:
@@ -50,8 +43,18 @@ class Transcript:
     stop = close
 
 
+class _Early(NamedTuple):
+    """A state that was taken early: a copy, which is merged, and the object, with its replica and what was in it."""
+
+    copy: Any
+    returned: Returned
+    replica: int
+    seen: Seen
+    counts: Tuple[int, ...]
+
+
 class _Saved(NamedTuple):
-    """What a replica saved, and what it received since then: methods with their arguments."""
+    """What a replica saved, and what it received since then: methods, each with a message or with a copy of a state."""
 
     value: Any
     moment: str
@@ -67,10 +70,9 @@ class Driver:
         self._names = dict(enumerate(setting.replicas))
         self._replicas = {it: setting.make_replica(self._names[it]) for it in initial}
         self._state = DeliveryState(setting.kind, len(setting.replicas))
-        self.messages: Dict[int, Any] = {}
+        self.messages: Dict[int, Returned] = {}
         """What each update returned, by its number."""
-        # For each state that was taken early: the state, its replica, and what was in it.
-        self._early: Dict[int, Tuple[Any, int, Seen, Tuple[int, ...]]] = {}
+        self._early: Dict[int, _Early] = {}
         self._saved: Dict[int, _Saved] = {}
         self._transcript = Transcript()
         # For each executed step, the number of lines after it.
@@ -120,7 +122,7 @@ class Driver:
             return False
         message = getattr(self._replicas[step.replica], step.method)(*step.arguments)
         self._require_no_coroutine(step, message)
-        self.messages[step.number] = message
+        self.messages[step.number] = Returned("message", step.number, message)
         name = self._names[step.replica]
         if step.arguments and self._kind == "counter":
             getattr(self.recorder, step.method)(name, step.arguments[0], message=step.number)
@@ -174,18 +176,21 @@ class Driver:
         if step.number in self._early:
             return False
         name = self._names[step.replica]
-        state = _copied(self._replicas[step.replica].state(), f"the state of {name!r}", "late_states=False")
+        state = self._replicas[step.replica].state()
+        copied = _copied(state, f"the state of {name!r}", "late_states=False")
         seen = self.recorder.seen(name)._replace(moment=f" of step {len(self.executed) + 1}")
-        self._early[step.number] = (state, step.replica, seen, self._state.counts(step.replica))
+        returned, counts = Returned("state", step.number, state), self._state.counts(step.replica)
+        self._early[step.number] = _Early(copied, returned, step.replica, seen, counts)
         return True
 
     def _merge_snapshot(self, step: Step) -> bool:
-        if step.number not in self._early or self._early[step.number][1] == step.replica:
+        early = self._early.get(step.number)
+        if early is None or early.replica == step.replica:
             return False
-        state, _, seen, counts = self._early[step.number]
-        self._hand(step, "merge", copy.deepcopy(state))
-        self.recorder.merge(self._names[step.replica], seen)
-        self._state.merge(step.replica, counts)
+        early.returned.require_unchanged()
+        self._hand(step, "merge", copy.deepcopy(early.copy))
+        self.recorder.merge(self._names[step.replica], early.seen)
+        self._state.merge(step.replica, early.counts)
         return True
 
     def _save(self, step: Step) -> bool:
@@ -199,7 +204,7 @@ class Driver:
         loaded = fresh.load(copy.deepcopy(saved.value))
         self._replicas[step.replica] = fresh if loaded is None else loaded
         for method, argument in saved.received:
-            self._call(step, method, copy.deepcopy(argument) if method == "merge" else argument)
+            self._call(step, method, argument if isinstance(argument, Returned) else copy.deepcopy(argument))
         return True
 
     def _join(self, step: Step) -> bool:
@@ -231,12 +236,14 @@ class Driver:
     def _hand(self, step: Step, method: str, argument: Any) -> None:
         """Hands a message or a state to the replica, which receives it again after a restart."""
         if self._profile.restarts:
-            kept = _copied(argument, "a state", "restarts=False") if method == "merge" else argument
+            is_message = isinstance(argument, Returned)
+            kept = argument if is_message else _copied(argument, "a state", "restarts=False")
             self._saved[step.replica].received.append((method, kept))
         self._call(step, method, argument)
 
     def _call(self, step: Step, method: str, argument: Any) -> None:
-        self._require_no_coroutine(step, getattr(self._replicas[step.replica], method)(argument))
+        handed = argument.require_unchanged() if isinstance(argument, Returned) else argument
+        self._require_no_coroutine(step, getattr(self._replicas[step.replica], method)(handed))
 
     def _save_state(self, replica: int) -> None:
         name, step = self._names[replica], len(self.executed) + 1

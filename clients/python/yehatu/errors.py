@@ -46,7 +46,9 @@ class Refused(ReportFailed):
 class ReplicaRaised(ReportFailed):
     """A replica of a random run raised an exception, which is the `__cause__` of this one.
 
-    A `read()` that returned what the text format cannot represent counts too; the `__cause__` is `NotRepresentable`.
+    A `read()` that returned what the text format cannot represent counts too; the `__cause__` is `NotRepresentable`. So
+    does a message or a state that changed after it was returned; then there is no `__cause__`. The history ends before
+    the call, and the message and the stored steps have it.
     """
 
 

@@ -2,11 +2,11 @@
 import os
 from typing import Optional, Sequence, Tuple
 
-from .driver import UnusableResult
 from .errors import FlakyRun, NotLinearizable, Refused, ReplicaRaised, ReportFailed
 from .failure_report import save_history
 from .faults import describe_faults
 from .regression import Expected, regression_test
+from .returned import Changed, Unusable
 from .runs import Failure, Setting
 from .steps import RECEIVING, Step
 from .stored import Stored, store
@@ -24,7 +24,7 @@ def create_error(
     `stored` before is not stored again.
     """
     history, path = _store(setting, small, seed, failure) if stored is None else (_beside(stored), stored)
-    report = small.recorder.failure_report(small.text)
+    report, operation = small.recorder.failure_report(small.text), _operation_of(setting, small)
     reply = small.replies[-1] if small.raised is None else ""
     explanation = report.explain(small.text, reply, setting.program)
     faults = "; ".join(describe_faults(small.steps, setting.replicas))
@@ -37,16 +37,14 @@ def create_error(
         expected = report.expected_read(explanation) if small.steps[-1].action == "read" else None
         parts += ["\nthe same as a test:\n", _indented(regression_test(
             setting.make_replica, setting.kind, setting.replicas, small.steps, seed, expected and Expected(*expected),
-            small.raised is not None and not isinstance(small.raised, UnusableResult), path,
+            small.raised is not None and not isinstance(small.raised, Unusable), path,
         ))]
     details = "\n".join(parts).rstrip()
     if small.raised is not None:
-        call = _describe_raised(setting, small)
-        origin = _describe_message(setting, small)
-        error: ReportFailed = ReplicaRaised(f"{first}{call}\n{origin}{details}", call, "", history)
-        error.__cause__ = small.raised.__cause__ if isinstance(small.raised, UnusableResult) else small.raised
+        origin = _describe_origin(setting, small)
+        error: ReportFailed = ReplicaRaised(f"{first}{operation}\n{origin}{details}", operation, "", history)
+        error.__cause__ = small.raised.__cause__ if isinstance(small.raised, Unusable) else small.raised
     else:
-        operation = report.describe(len(report.commands) - 1)
         kind = NotLinearizable if small.cause == ("no",) else Refused
         error = kind(f"{first}{report.summarize(reply, explanation)}\n{details}", operation, reply, history)
     error.steps = path
@@ -58,42 +56,50 @@ def create_flaky(
 ) -> FlakyRun:
     """Creates the exception for a run that did not fail in the same way again."""
     history, stored = _store(setting, failure, seed, path)
-    operation, first = _answer(setting, failure)
-    second = "it passed" if again is None else _answer(setting, again)[1]
+    first = _answer(setting, failure)
+    second = "it passed" if again is None else _answer(setting, again)
     error = FlakyRun(
         f"{summary} failed, and the same steps did not fail in the same way again: the class is not deterministic "
         f"(random numbers, time, the order of a set, or what replicas share)\nat one time: {first}\n"
         f"at another time: {second}\nthe history is {history}, and the steps are {stored}",
-        operation, "" if failure.raised is not None else failure.replies[-1], history,
+        _operation_of(setting, failure), "" if failure.raised is not None else failure.replies[-1], history,
     )
     error.steps = stored
     return error
 
 
-def _answer(setting: Setting, failure: Failure) -> Tuple[str, str]:
+def _answer(setting: Setting, failure: Failure) -> str:
     """Returns what a replica did, and what came of it."""
     if failure.raised is not None:
-        call = _describe_raised(setting, failure)
-        return call, call
-    report = failure.recorder.failure_report(failure.text)
-    return report.describe(len(report.commands) - 1), report.summarize(failure.replies[-1], None)
+        return _operation_of(setting, failure)
+    return failure.recorder.failure_report(failure.text).summarize(failure.replies[-1], None)
 
 
-def _describe_raised(setting: Setting, failure: Failure) -> str:
-    """Returns the last call, with what it raised, or what it returned that cannot be reported."""
+def _operation_of(setting: Setting, failure: Failure) -> str:
+    """Returns the last command, or the last call with what it raised, or what it returned that cannot be used."""
     raised = failure.raised
-    outcome = str(raised) if isinstance(raised, UnusableResult) else f"raised {raised!r}"
+    if raised is None:
+        report = failure.recorder.failure_report(failure.text)
+        return report.describe(len(report.commands) - 1)
+    outcome = str(raised) if isinstance(raised, Unusable) else f"raised {raised!r}"
     return f"{describe_call(setting, failure.steps[-1])} {outcome}"
 
 
-def _describe_message(setting: Setting, failure: Failure) -> str:
-    """Returns a line that says which call returned the message that the last call received, if it received one."""
-    last = failure.steps[-1]
-    if last.action not in RECEIVING:
+def _describe_origin(setting: Setting, failure: Failure) -> str:
+    """Returns a line that says which call returned what the last one received, if that is a message or has changed."""
+    last, raised = failure.steps[-1], failure.raised
+    if isinstance(raised, Changed):
+        what, number = raised.what, raised.number
+    elif last.action in RECEIVING:
+        what, number = "message", last.number
+    else:
         return ""
-    update = next(it for it in failure.steps if it.action == "update" and it.number == last.number)
-    line = f"message {last.number} was returned by {describe_call(setting, update)}"
-    if failure.messages.get(last.number) is None:
+    action = "update" if what == "message" else "snapshot"
+    returning = next(it for it in failure.steps if it.action == action and it.number == number)
+    line = f"{what} {number} was returned by {describe_call(setting, returning)}"
+    if isinstance(raised, Changed):
+        line += raised.change
+    elif failure.messages[number].value is None:
         line += ", and is None: an update returns the message that the other replicas receive"
     return f"{line}\n"
 

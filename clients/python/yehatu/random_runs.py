@@ -87,10 +87,15 @@ def check_random(
     first parameter of each update of a counter is named `by`, it is an amount, and amounts up to 256 are tried. No
     argument is passed for a parameter of another name, which needs a default.
 
+    The replicas receive the message or the state itself, so it must not change after it was returned. If `repr` shows
+    that it did, the run fails. A state that is merged later than it was taken is copied when it is taken, as a network
+    would do it, and so is what `save()` returns.
+
     Raises:
         NotLinearizable: A run has a violation.
         Refused: The program rejected a report.
-        ReplicaRaised: A replica raised an exception, or its `read()` returned what cannot be reported.
+        ReplicaRaised: A replica raised an exception, its `read()` returned what cannot be reported, or a message or a
+            state changed after it was returned.
         FlakyRun: A run failed, and the same steps did not fail in the same way again.
         TypeError: The class lacks a method, or an update of a counter requires a parameter of another name than `by`.
         ValueError: An argument is wrong, for instance `failure` a file that cannot be written.

@@ -1,9 +1,10 @@
 """Runs of plans on the user's own replicas, which the program checks."""
-from typing import Any, List, Mapping, NamedTuple, Optional, Sequence, Tuple
+from typing import List, Mapping, NamedTuple, Optional, Sequence, Tuple
 
 from . import program
-from .driver import Driver, Setting, UnusableResult
+from .driver import Driver, Setting
 from .recorder import Recorder
+from .returned import Returned, Unusable
 from .steps import Step
 
 __all__ = ["Failure", "Run", "Setting", "find_failure"]
@@ -13,14 +14,14 @@ class Failure(NamedTuple):
     """A failed run, up to the step at which it failed."""
 
     cause: Tuple[str, ...]
-    """`no`; `refused` and the reason; `raised` and the name of the exception; or `returned` and the type of a result
-    that cannot be reported."""
+    """`no`; `refused` and the reason; `raised` and the name of the exception; `returned` and the type of a result that
+    cannot be reported; or `changed`, and `message` or `state`."""
     steps: List[Step]
     recorder: Recorder
     text: str
     replies: List[str]
     raised: Optional[Exception] = None
-    messages: Mapping[int, Any] = {}
+    messages: Mapping[int, Returned] = {}
     """What each update returned, by its number, if a replica raised an exception."""
 
 
@@ -47,9 +48,7 @@ class Run:
                 cause, driver.steps_to(failed), driver.recorder, driver.text(failed + 1), replies[: failed + 1]
             )
         if raised is not None:
-            cause = ("raised", type(raised).__name__)
-            if isinstance(raised, UnusableResult):
-                cause = ("returned", raised.type_name)
+            cause = raised.failure if isinstance(raised, Unusable) else ("raised", type(raised).__name__)
             return Failure(
                 cause, driver.executed, driver.recorder, driver.text(), replies, raised, driver.messages
             )
