@@ -56,15 +56,15 @@ export class FailureReport {
   }
 
   /**
-   * Returns a table of the commands from number `first` on: each with its reply, if any, and its description. If there
-   * are more than `most`, and that is given, those in the middle are left out.
+   * Returns a table of the commands from number `first` on: each with its reply, if any, and its description. `last`,
+   * if given, describes a call behind them, for which there is no command. If there are more than `most` rows, and that
+   * is given, those in the middle are left out.
    */
-  formatCommands(replies = [], { first = 0, most = Infinity } = {}) {
-    const rowsOf = (line, number) => [
-      ...(this.#notes.get(number) ?? []).map((note) => ["", "", note]),
-      [line, replies[number] ?? "", this.describe(number)],
-    ];
+  formatCommands(replies = [], { first = 0, most = Infinity, last } = {}) {
+    const notesOf = (number) => (this.#notes.get(number) ?? []).map((note) => ["", "", note]);
+    const rowsOf = (line, number) => [...notesOf(number), [line, replies[number] ?? "", this.describe(number)]];
     const rows = this.commands.flatMap((line, number) => (number < first ? [] : rowsOf(line, number)));
+    if (last !== undefined) rows.push(...notesOf(this.commands.length), ["", "", last]);
     if (rows.length > most) {
       const leftOut = rows.length - most;
       rows.splice(most >> 1, leftOut, ["..", "", `${leftOut} lines are left out here, and not in the file`]);

@@ -31,7 +31,8 @@ export function createError(setting, small, { seed, summary, failure, stored }) 
     ...(faults === "" ? [] : [`at work: ${faults}`]),
     `${run}the history is ${history}, the steps are ${path}:\n`,
     indented(header(small.text)),
-    report.formatCommands(small.replies, { most: SHOWN_LINES }),
+    // The history has no line for a call that threw.
+    report.formatCommands(small.replies, { most: SHOWN_LINES, last: small.raised && operation.split("\n")[0] }),
   ];
   if (stored === undefined) {
     const expected = small.steps.at(-1).action === "read" ? report.expectedRead(explanation) : null;
@@ -106,7 +107,9 @@ function storeFailure(setting, failure, seed, path) {
   const history = saveHistory(failure.text, path === undefined ? undefined : beside(path));
   const steps = path ?? history.replace(/\.rah$/, ".json");
   const { kind, replicas, profile } = setting;
-  store(steps, { seed, kind, replicas, profile, steps: failure.steps, cause: failure.cause, history: failure.text });
+  const operation = operationOf(setting, failure);
+  const { cause, text } = failure;
+  store(steps, { seed, kind, replicas, profile, steps: failure.steps, cause, history: text, operation });
   return [history, steps];
 }
 

@@ -7,13 +7,13 @@ import { fromValues, toValues } from "./steps.js";
 const VERSION = 1;
 const KEYS = ["version", "seed", "kind", "replicas", "profile", "steps", "cause", "history"];
 
-/** Writes the failure to this file: its seed, kind, replicas, profile, steps, cause and history. */
-export function store(path, { seed, kind, replicas, profile, steps, cause, history }) {
+/** Writes the failure to this file. The operation is what the replica did last, for people who read the file. */
+export function store(path, { seed, kind, replicas, profile, steps, cause, history, operation }) {
   const { delivery, duplicates, lateStates, restarts } = profile;
   const values = {
     version: VERSION, seed, kind, replicas: replicas.map(plain),
     profile: { delivery, duplicates, late_states: lateStates, restarts },
-    steps: toValues(steps), cause, history,
+    steps: toValues(steps), cause, history, operation,
   };
   writeFileSync(path, `${JSON.stringify(values)}\n`);
 }

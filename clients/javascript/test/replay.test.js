@@ -7,6 +7,7 @@ import { extname, join } from "node:path";
 import { test } from "node:test";
 import * as yehatu from "../index.js";
 import { FlakyRun, NotLinearizable, ReplicaRaised, ReportFailed, checkRandom, replay } from "../index.js";
+import { checkText, findForManyRuns } from "../src/program.js";
 import { PLANTED, saving } from "./network_replicas.js";
 import { OBSERVABLE } from "./planted.js";
 import { Asynchronous, Flaky, Stuttering, Unrepaired } from "./replayed.js";
@@ -93,10 +94,10 @@ test("a failure is stored and fails again", async () => {
   const failed = await knownFailure(TIES, "register");
   assert.equal(failed.steps, failed.history.replace(/\.rah$/, ".json"));
   const stored = JSON.parse(readFileSync(failed.steps, "utf8"));
-  const keys = ["version", "seed", "kind", "replicas", "profile", "steps", "cause", "history"];
+  const keys = ["version", "seed", "kind", "replicas", "profile", "steps", "cause", "history", "operation"];
   assert.deepEqual(Object.keys(stored), keys);
   assert.deepEqual([stored.version, stored.kind, stored.cause], [1, "register", ["no"]]);
-  assert.equal(stored.history, historyOf(failed));
+  assert.deepEqual([stored.history, stored.operation], [historyOf(failed), failed.operation]);
   const again = await replay(TIES, failed.steps).catch((error) => error);
   assert.ok(again instanceof NotLinearizable, again);
   assert.ok(again.message.startsWith(`the stored run of seed ${stored.seed} still fails: '`));
@@ -226,6 +227,43 @@ test("the middle of a long history is left out", async () => {
   assert.match(failed.message, /^ {4}\.\. +\d+ lines are left out here, and not in the file$/m);
   assert.ok(historyOf(failed).split("\n").length > 128);
   assert.ok(failed.message.split("\n").length < 80);
+});
+
+test("the call that raised ends the printed history", async () => {
+  class ReceivesOnce extends Counter {
+    received = [];
+
+    receive(message) {
+      if (this.received.includes(message)) throw new TypeError("again");
+      this.received.push(message);
+      super.receive(message);
+    }
+  }
+  class ThrowsTwoLines extends Counter {
+    read() {
+      if (this.number === 2) throw new RangeError("one\ntwo");
+      return this.number;
+    }
+  }
+  const before = "[abc] inc  ok 1  '.' increments";
+  const delivery = "[abc] got 0  got 0  '.' receives message 1, label 0 .*";
+  const again = ["'.' receives message 1 again", "'.': receive\\(message 1\\) again threw TypeError: again"];
+  for (const [Replica, options, rows] of [
+    [Stuttering, {}, [before, "'.': increment\\(\\) threw RangeError: three"]],
+    [ReceivesOnce, { duplicates: true }, [delivery, ...again]],
+    // The first line of an outcome is shown.
+    [ThrowsTwoLines, {}, [before, "'.': read\\(\\) threw RangeError: one"]],
+  ]) {
+    const failed = await failureOf(Replica, "counter", options);
+    const repeated = await replay(Replica, failed.steps).catch((error) => error);
+    for (const message of [failed.message.split("\n\nthe same as a test:")[0], repeated.message]) {
+      const lines = message.split("\n").slice(-rows.length);
+      lines.forEach((line, at) => assert.match(line, new RegExp(`^    +${rows[at]}$`)));
+    }
+    // The history is one that the program reads, so the call has no line in it.
+    assert.equal(checkText(findForManyRuns(), historyOf(failed)).status, 0);
+    assert.equal(JSON.parse(readFileSync(failed.steps, "utf8")).operation, failed.operation);
+  }
 });
 
 test("the regression test fails alone and passes once the class is right", async (t) => {

@@ -7,7 +7,7 @@ import sys
 import tempfile
 import unittest
 from pathlib import Path
-from typing import Any, Dict
+from typing import Any, Dict, List
 
 import planted
 import yehatu
@@ -87,6 +87,13 @@ class Flaky(Counter):
         return self.number
 
 
+class TwoLines:
+    """A result that is shown in two lines."""
+
+    def __repr__(self) -> str:
+        return "one\ntwo"
+
+
 def returning(result: Any) -> Any:
     """Returns a class of counters whose read returns this result for 2."""
 
@@ -126,9 +133,10 @@ class StoredFailures(unittest.TestCase):
         failed = known_failure(TIES, "register")
         self.assertEqual(failed.steps, f"{os.path.splitext(failed.history or '')[0]}.json")
         stored = json.loads(Path(failed.steps or "").read_text())
-        self.assertEqual([*stored], ["version", "seed", "kind", "replicas", "profile", "steps", "cause", "history"])
+        keys = ["version", "seed", "kind", "replicas", "profile", "steps", "cause", "history", "operation"]
+        self.assertEqual([*stored], keys)
         self.assertEqual((stored["version"], stored["kind"], stored["cause"]), (1, "register", ["no"]))
-        self.assertEqual(stored["history"], _history(failed))
+        self.assertEqual((stored["history"], stored["operation"]), (_history(failed), failed.operation))
         with self.assertRaises(NotLinearizable) as caught:
             replay(TIES, failed.steps or "")
         self.assertTrue(str(caught.exception).startswith(f"the stored run of seed {stored['seed']} still fails: '"))
@@ -230,6 +238,39 @@ class Messages(unittest.TestCase):
         self.assertRegex(str(failed), r"(?m)^    \.\. +\d+ lines are left out here, and not in the file$")
         self.assertGreater(len(_history(failed).splitlines()), 128)
         self.assertLess(len(str(failed).splitlines()), 80)
+
+    def test_the_call_that_raised_ends_the_printed_history(self) -> None:
+        class ReceivesOnce(Counter):
+            def __init__(self, name: str) -> None:
+                super().__init__(name)
+                self.received: List[Any] = []
+
+            def receive(self, message: Any) -> None:
+                if any(it is message for it in self.received):
+                    raise TypeError("again")
+                self.received.append(message)
+                super().receive(message)
+
+        before, delivery = "[abc] inc  ok 1  '.' increments", "[abc] got 0  got 0  '.' receives message 1, label 0 .*"
+        raised = r"'.': increment\(\) raised ZeroDivisionError\('three'\)"
+        again = r"'.' receives message 1 again", r"'.': receive\(message 1\) again raised TypeError\('again'\)"
+        for make, options, rows in [
+            (Stuttering, {}, [before, raised]), (ReceivesOnce, {"duplicates": True}, [delivery, *again]),
+            # The first line of an outcome is shown.
+            (returning(TwoLines()), {}, [before, r"'.': read\(\) returned one"]),
+        ]:
+            with self.subTest(make=make.__name__):
+                failed = failure_of(make, "counter", **options)
+                with self.assertRaises(ReplicaRaised) as caught:
+                    replay(make, failed.steps or "")
+                for message in (str(failed).partition("\n\nthe same as a test:")[0], str(caught.exception)):
+                    for line, row in zip(message.splitlines()[-len(rows):], rows):
+                        self.assertRegex(line, rf"^    +{row}$")
+                # The history is one that the program reads, so the call has no line in it.
+                checked = yehatu.program.check_text(yehatu.program.find_for_many_runs(), _history(failed).encode())
+                self.assertEqual(checked.status, 0)
+                stored = json.loads(Path(failed.steps or "").read_text())
+                self.assertEqual(stored["operation"], failed.operation)
 
     def test_the_regression_test_fails_alone_and_passes_once_the_class_is_right(self) -> None:
         for make, kind, right, options in [

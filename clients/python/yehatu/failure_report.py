@@ -47,15 +47,18 @@ class FailureReport:
         message = f"message {self._message_keys[label]!r}, " if label in self._message_keys else ""
         return f"{message}label {label} ({self._translator.describe(self._line_of[label], self._describe_label)})"
 
-    def format_commands(self, replies: Sequence[str] = (), first: int = 0, most: int = 0) -> str:
+    def format_commands(self, replies: Sequence[str] = (), first: int = 0, most: int = 0, last: str = "") -> str:
         """Returns a table of the commands from number `first` on: each with its reply, if any, and its description.
 
-        If there are more than `most`, and that is not 0, those in the middle are left out.
+        `last`, if any, describes a call behind them, for which there is no command. If there are more than `most` rows,
+        and that is not 0, those in the middle are left out.
         """
         rows = []
         for number, line in enumerate(self.commands[first:], first):
             rows += [("", "", note) for note in self._notes.get(number, ())]
             rows.append((line, replies[number] if replies else "", self.describe(number)))
+        if last:
+            rows += [("", "", it) for it in (*self._notes.get(len(self.commands), ()), last)]
         if most and len(rows) > most:
             left_out = len(rows) - most
             rows[most // 2 : -(most // 2)] = [("..", "", f"{left_out} lines are left out here, and not in the file")]

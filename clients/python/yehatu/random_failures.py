@@ -26,13 +26,15 @@ def create_error(
     history, path = _store(setting, small, seed, failure) if stored is None else (_beside(stored), stored)
     report, operation = small.recorder.failure_report(small.text), _operation_of(setting, small)
     reply = small.replies[-1] if small.raised is None else ""
+    # The history has no line for a call that raised.
+    last = "" if small.raised is None else operation.splitlines()[0]
     explanation = report.explain(small.text, reply, setting.program)
     faults = "; ".join(describe_faults(small.steps, setting.replicas))
     parts = [f"at work: {faults}"] if faults else []
     run = f"{summary}; " if stored is None else ""
     first = "" if stored is None else f"{summary}: "
     parts += [f"{run}the history is {history}, the steps are {path}:\n"]
-    parts += [_indented(_header(small.text)), report.format_commands(small.replies, most=SHOWN_LINES)]
+    parts += [_indented(_header(small.text)), report.format_commands(small.replies, most=SHOWN_LINES, last=last)]
     if stored is None:
         expected = report.expected_read(explanation) if small.steps[-1].action == "read" else None
         parts += ["\nthe same as a test:\n", _indented(regression_test(
@@ -110,6 +112,7 @@ def _store(setting: Setting, failure: Failure, seed: str, path: Optional[str]) -
     steps = path or f"{os.path.splitext(history)[0]}.json"
     store(steps, Stored(
         seed, setting.kind, list(setting.replicas), setting.profile, failure.steps, failure.cause, failure.text,
+        _operation_of(setting, failure),
     ))
     return history, steps
 

@@ -19,6 +19,8 @@ class Stored(NamedTuple):
     steps: List[Step]
     cause: Tuple[str, ...]
     history: str
+    operation: str = ""
+    """What the replica did last, for people who read the file."""
 
 
 def store(path: str, stored: Stored) -> None:
