@@ -23,7 +23,7 @@ mod reply;
 pub use command::Command;
 pub use elements::Elements;
 pub use kind::Kind;
-pub use label::{Label, Stamp};
+pub use label::{LOWEST, Label, Stamp};
 pub use limits::MOST_REPLICAS;
 pub use memory::NoMemory;
 pub use operation::{Op, Query, Update};

@@ -10,19 +10,13 @@ use crate::entry::Entry;
 use crate::link::link;
 use crate::room::reserve_place;
 use crate::spot::{number_behind, spot_behind};
-use ra_labels::{NoMemory, Stamp};
+use ra_labels::{LOWEST, NoMemory, Stamp};
 use std::alloc::Global;
 use std::collections::HashMap;
 use std::marker::Model;
 
 /// The number of the root, the element before all others.
 pub const ROOT: u32 = 0;
-
-/// The stamp of the root, which is less than every stamp with a clock of at least 1.
-pub const LOWEST: Stamp = Stamp {
-    clock: 0,
-    replica: 0,
-};
 
 /// The elements of all labels, in the order of the list after the updates of all labels. Elements have numbers in the
 /// order of their insertion here, and the root has number 0.

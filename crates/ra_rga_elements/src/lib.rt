@@ -19,4 +19,4 @@ mod room;
 mod split;
 mod spot;
 
-pub use element_list::{ElementList, LOWEST, ROOT};
+pub use element_list::{ElementList, ROOT};

@@ -26,8 +26,8 @@ use crate::edit::Edit;
 use crate::number_set::NumberSet;
 use crate::pending::PendingLabels;
 use crate::put::put_in;
-use ra_labels::{Kind, NoMemory, Stamp, Update};
-use ra_rga_elements::{ElementList, LOWEST, ROOT};
+use ra_labels::{Kind, LOWEST, NoMemory, Stamp, Update};
+use ra_rga_elements::{ElementList, ROOT};
 use ra_seqspec::State;
 use std::alloc::Global;
 use std::marker::Model;
@@ -381,8 +381,6 @@ impl ReplicaList {
     fn observe_stamp(&mut self, stamp: Stamp)
         ensures { self.new ≡ record self.old { greatest = greater_of self.old.greatest stamp } }
     {
-        if self.greatest < stamp {
-            self.greatest = stamp;
-        }
+        self.greatest = self.greatest.greater(stamp);
     }
 }

@@ -3,8 +3,8 @@ ghost use Rattle.std.specs.Prelude.{◌≡◌, ◌<◌, true, [], length, replic
 ghost use Rattle.ra_visibility.specs.Seen.{count_in};
 ghost use Rattle.ra_time_order.specs.Stamps.{greatest_in, stamps_with};
 
-use crate::running_maximum::{LOWEST, RunningMaximum, greater};
-use ra_labels::{NoMemory, Stamp};
+use crate::running_maximum::RunningMaximum;
+use ra_labels::{LOWEST, NoMemory, Stamp};
 use ra_visibility::Seen;
 use std::alloc::Global;
 use std::marker::Model;
@@ -78,7 +78,7 @@ impl RunningMaxima {
     {
         let mut greatest = LOWEST;
         for (replica, member) in self.members.as_slice()[..self.used].iter().enumerate() {
-            greatest = greater(greatest, member.among(seen.count(replica as u8)));
+            greatest = greatest.greater(member.among(seen.count(replica as u8)));
         }
         greatest
     }

@@ -1,10 +1,8 @@
 //! The running maximum of one replica: the greatest own stamp among its first updates, for each number of them.
-ghost use Rattle.std.specs.Prelude.{◌≡◌, ◌<◌, [], not, IfOk, OnOk};
-ghost use Rattle.std.specs.Ordering.{is_lt};
-ghost use Rattle.ra_labels.specs.NamedOrder.{stamp_cmp, greater_of};
+ghost use Rattle.std.specs.Prelude.{◌≡◌, ◌<◌, [], IfOk, OnOk};
 ghost use Rattle.ra_time_order.specs.RunningMaximum.{greatest_among, with_stamp};
 
-use ra_labels::{NoMemory, Stamp};
+use ra_labels::{LOWEST, NoMemory, Stamp};
 use std::alloc::Global;
 use std::marker::Model;
 
@@ -77,24 +75,4 @@ impl RunningMaximum {
         };
         self.stamps.push_reserved(next);
     }
-}
-
-/// The lowest rank, which is less than every stamp with a clock of at least 1.
-pub const LOWEST: Stamp = Stamp {
-    clock: 0,
-    replica: 0,
-};
-
-/// Returns the greater of two stamps.
-pub fn greater(one: Stamp, other: Stamp) -> Stamp
-    ensures { result ≡ greater_of one other }
-{
-    if one < other { other } else { one }
-}
-
-/// Returns `true` if the first stamp is not greater than the other one.
-pub fn is_at_most(one: Stamp, other: Stamp) -> bool
-    ensures { result ≡ not (is_lt (stamp_cmp other one)) }
-{
-    one <= other
 }

@@ -10,8 +10,7 @@ ghost use Rattle.ra_time_order.specs.Sorted.{joined, IsRunOf, IsSplit};
 use crate::chunk::Chunk;
 use crate::entry::Entry;
 use crate::run::Run;
-use crate::running_maximum::{LOWEST, greater, is_at_most};
-use ra_labels::{NoMemory, Stamp};
+use ra_labels::{LOWEST, NoMemory, Stamp};
 use std::alloc::Global;
 use std::marker::Model;
 
@@ -87,7 +86,7 @@ impl Sorted {
     pub fn is_past_all(&self, rank: Stamp) -> bool
         ensures { result ≡ true → IsPositionOf rank self.now.entries (length self.now.entries) }
     {
-        is_at_most(self.last, rank)
+        self.last.is_at_most(rank)
     }
 
     /// Returns how many labels have no greater rank than this one.
@@ -122,7 +121,7 @@ impl Sorted {
         self.runs[at].chunk.insert(entry);
         self.labels += 1;
         self.newest = at;
-        self.last = greater(self.last, entry.rank);
+        self.last = self.last.greater(entry.rank);
     }
 
     /// Returns the label at a position, or `None` behind the last one.

@@ -7,7 +7,6 @@ ghost use Rattle.ra_time_order.specs.Positions.{IsPastAll};
 
 use crate::entry::Entry;
 use crate::running_maxima::RunningMaxima;
-use crate::running_maximum::is_at_most;
 use crate::sorted::Sorted;
 use ra_labels::{Label, MOST_REPLICAS, NoMemory};
 use ra_visibility::{NamedOrder, Place, Seen};
@@ -82,7 +81,7 @@ impl NamedOrder for TimeOrder {
         let rank = label.stamp.unwrap_or(greatest);
         Place {
             at: self.sorted.position(rank),
-            fits: is_at_most(greatest, rank),
+            fits: greatest.is_at_most(rank),
         }
     }
 

@@ -1,6 +1,8 @@
 -- Lemmas on the cause at a label of an RGA that fits.
 use Rattle.std.proofs.Common.{◌≡◌, ℕ, Bool, true, false, cond, ◌∷◌, Option, Some, None, refl, sym, ap, ◌∙◌}
-use Rattle.std.specs.Prelude.{◌↔◌, not}
+use Rattle.std.specs.Prelude.{◌↔◌, not, is_some, IfSome, IfOk}
+use Rattle.std.specs.Option.{ok_or}
+use Rattle.std.specs.Result.{result_err}
 use Rattle.ra_labels.specs.declared.kind.Kind.TheVariants as variant
 use Rattle.ra_labels.specs.declared.operation.Op.{Op}
 use Rattle.ra_labels.specs.declared.operation.Op.TheVariants as ops
@@ -21,6 +23,15 @@ use Rattle.ra_theorems.proofs.TheoremIndex.{operation_inserts_among_all-query}
 use Rattle.ra_witness.specs.Labels.{cause_in}
 use Rattle.ra_witness.specs.Offered.{IsOffered}
 use Rattle.ra_witness.proofs.Causes.{cause_where_it_fits}
+
+-- without a value, the result is the error
+pub refused_unless : {T E : Type 0} (o : Option T) (e : E) → result_err (ok_or o e) ≡ cond (is_some o) None (Some e)
+refused_unless None e = refl
+refused_unless (Some x) e = refl
+
+pub kept_if_some : {T E : Type 0} (P : T → Type 0) (o : Option T) (e : E) → IfSome o P → IfOk (ok_or o e) P
+kept_if_some P None e holds = tt
+kept_if_some P (Some x) e holds = holds
 
 -- an operation that neither inserts nor removes is not an update
 pub asks_only : (operation : Op) → ((a x : ℕ) → ¬ (operation ≡ ops.After a x)) → ((x : ℕ) → ¬ (operation ≡ ops.RgaRemove x)) → kind_of operation ≡ variant.Rga

@@ -1,5 +1,6 @@
 //! The effects of labels and the states of replicas, represented by how a kind treats late updates.
-ghost use Rattle.std.specs.Prelude.{◌≡◌, ℕ, ◌+◌, ◌≤◌, ◌++◌, ◌∷◌, [], true, List, length, Option, Some, None, IfOk, IfErr, OnOk, OnErr};
+ghost use Rattle.std.specs.Prelude.{◌≡◌, ℕ, ◌+◌, ◌≤◌, ◌++◌, ◌∷◌, true, List, length, IfOk, OnOk, OnErr};
+ghost use Rattle.std.specs.Result.{result_err};
 ghost use Rattle.std.specs.List.{slice_get};
 ghost use Rattle.std.specs.Option.{option_to_list};
 ghost use Rattle.ra_labels.specs.declared.kind.Kind.{Kind};
@@ -21,11 +22,11 @@ ghost use Rattle.ra_witness.specs.States.{steps_of};
 ghost use Rattle.ra_witness.specs.Settled.{SettlesMore};
 ghost use Rattle.ra_witness.specs.Sequence.{has_query_half};
 ghost use Rattle.ra_witness.specs.Offered.{IsOffered, IsDelivered, IsJoinedFrom};
-ghost use Rattle.ra_witness.specs.Effects.{AreEffectsOf, IsOverridingOf, MayMeet, MayAdd, MayWrite, MayDeliver, MayJoinFrom};
+ghost use Rattle.ra_witness.specs.Effects.{AreEffectsOf, IsOverridingOf, IsFoundIn, MayMeet, MayAdd, MayWrite, MayDeliver, MayJoinFrom};
 
 use crate::commuting::Commuting;
 use crate::overriding::Overriding;
-use crate::rga::Rga;
+use crate::rga::{Found, Rga};
 use ra_labels::{Cause, Kind, Label, NoMemory, Update};
 use ra_rewrite::Parts;
 use std::alloc::Global;
@@ -39,6 +40,15 @@ pub enum Effects {
     Overriding(Overriding),
     /// RGA: a late element goes behind the nearest present element before it.
     Rga(Rga),
+}
+
+/// What the test of a label found, so that nothing is looked up again when the label is added.
+#[derive(Drop)]
+pub struct Admitted {
+    /// The label's update, if it has one.
+    pub update: Option<Update>,
+    /// What the label names, if it is one of an RGA.
+    pub found: Found,
 }
 
 impl Effects {
@@ -61,67 +71,74 @@ impl Effects {
         }
     }
 
-    /// Returns the update of the next label, if it has one, which has these parts. Consumes the parts, so that they are
-    /// dropped in one place.
+    /// Returns the update of the next label, if it has one, and what it names. The label has these parts. Consumes
+    /// them, so that they are dropped in one place.
     ///
     /// # Errors
     ///
     /// The first condition that fails with the label, apart from the order.
-    pub fn check(&self, label: &Label, parts: Parts) -> Result<Option<Update>, Cause>
+    pub fn admit(&self, label: &Label, parts: Parts) -> Result<Admitted, Cause>
         requires { MayMeet self.now label.now (acts_in parts) }
         ensures cause { (past : History) (next : NextOperation) → AreEffectsOf self.now past
             → IsOffered past next label.now
             → acts_in parts ≡ acts_of next.op
-            → IfErr result (λ cause. Some cause ≡ cause_of past.kind (operate next ∷ past.records)) }
-        ensures none { (past : History) (next : NextOperation) → AreEffectsOf self.now past
-            → IsOffered past next label.now
-            → acts_in parts ≡ acts_of next.op
-            → OnOk result (None ≡ cause_of past.kind (operate next ∷ past.records)) }
-        ensures update { IfOk result (λ update. option_to_list update ≡ updates_in (acts_in parts)) }
+            → result_err result ≡ cause_of past.kind (operate next ∷ past.records) }
+        ensures update { IfOk result (λ admitted. option_to_list admitted.update ≡ updates_in (acts_in parts)) }
+        ensures found { IfOk result (λ admitted. IsFoundIn self.now label.now admitted.found) }
     {
-        match self.cause(label, &parts) {
-            Some(cause) => Err(cause),
-            None => Ok(parts.into_update()),
+        match self.find(label, &parts) {
+            Err(cause) => Err(cause),
+            Ok(found) => Ok(Admitted {
+                update: parts.into_update(),
+                found,
+            }),
         }
     }
 
-    /// Returns the first condition, apart from the order, that fails with the next label, which has these parts.
-    fn cause(&self, label: &Label, parts: &Parts) -> Option<Cause>
+    // Returns what the next label names, which has these parts, or the first condition that fails with it, apart from
+    // the order.
+    fn find(&self, label: &Label, parts: &Parts) -> Result<Found, Cause>
         requires { MayMeet self.now label.now (acts_in parts.now) }
-        ensures { (past : History) (next : NextOperation) → AreEffectsOf self.now past → IsOffered past next label.now
-            → acts_in parts.now ≡ acts_of next.op → result ≡ cause_of past.kind (operate next ∷ past.records) }
+        ensures cause { (past : History) (next : NextOperation) → AreEffectsOf self.now past
+            → IsOffered past next label.now
+            → acts_in parts.now ≡ acts_of next.op
+            → result_err result ≡ cause_of past.kind (operate next ∷ past.records) }
+        ensures found { IfOk result (IsFoundIn self.now label.now) }
     {
         match self {
-            Effects::Commuting(kept) => kept.cause(label.replica, parts),
-            Effects::Overriding(kept) => kept.cause(label.replica, parts),
-            Effects::Rga(kept) => kept.cause(label, parts),
+            Effects::Commuting(kept) => nothing_unless(kept.cause(label.replica, parts)),
+            Effects::Overriding(kept) => nothing_unless(kept.cause(label.replica, parts)),
+            Effects::Rga(kept) => kept.admit(label, parts),
         }
     }
 
-    /// Adds the next label, with its update if it has one, and returns the number of steps, at most 1.
+    /// Adds the next label, with what its test found, and returns the number of steps, at most 1.
     ///
     /// # Errors
     ///
     /// `NoMemory` if allocation fails; the same history is represented.
-    pub fn add(&mut self, label: &Label, update: Option<Update>) -> Result<u64, NoMemory>
-        requires { MayAdd self.old label.now update }
+    pub fn add(&mut self, label: &Label, admitted: Admitted) -> Result<u64, NoMemory>
+        requires may { MayAdd self.old label.now admitted.update }
+        requires found { IsFoundIn self.old label.now admitted.found }
         ensures taken { (past : History) (next : NextOperation) → AreEffectsOf self.old past
             → IsOffered past next label.now
             → updates_admitted past.kind (named_sequence past.kind (operate next ∷ past.records)) ≡ true
-            → update ≡ update_in next.op → OnOk result (AreEffectsOf self.new (history_with past (operate next))) }
+            → admitted.update ≡ update_in next.op
+            → OnOk result (AreEffectsOf self.new (history_with past (operate next))) }
         ensures step { IfOk result (λ steps. steps ≤ 1) }
         ensures counted { (past : History) → AreEffectsOf self.old past → ¬ (past.kind ≡ kinds.Rga)
-            → IfOk result (λ steps. steps ≡ steps_of update) }
+            → IfOk result (λ steps. steps ≡ steps_of admitted.update) }
         ensures settled { (past : History) (next : NextOperation) → AreEffectsOf self.old past
             → IsOffered past next label.now
             → updates_admitted past.kind (named_sequence past.kind (operate next ∷ past.records)) ≡ true
             → past.kind ≡ kinds.Rga → IfOk result (SettlesMore past.records (operate next) next.by) }
         ensures same { (past : History) → AreEffectsOf self.old past → OnErr result (AreEffectsOf self.new past) }
     {
+        let Admitted { update, found } = admitted;
         match self {
             Effects::Commuting(kept) => kept.add(label.replica, update),
             Effects::Overriding(kept) => add_write(kept, label, update),
-            Effects::Rga(kept) => kept.add(label),
+            Effects::Rga(kept) => kept.add(label, found),
         }
     }
 
@@ -200,6 +217,16 @@ impl Effects {
             Effects::Overriding(kept) => *kept.writes.allocator(),
             Effects::Rga(kept) => kept.allocator(),
         }
+    }
+}
+
+// Returns the cause if there is one, and else that nothing was found.
+fn nothing_unless(cause: Option<Cause>) -> Result<Found, Cause>
+    ensures { result_err result ≡ cause }
+{
+    match cause {
+        Some(cause) => Err(cause),
+        None => Ok(Found::Nothing),
     }
 }
 

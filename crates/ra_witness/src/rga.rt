@@ -1,14 +1,14 @@
 //! The effects of an RGA's labels: a late element goes behind the nearest present element before it.
-ghost use Rattle.std.specs.Prelude.{◌≡◌, ◌↔◌, ℕ, ◌<◌, ◌≤◌, ◌^◌, ◌∷◌, [], true, length, Option, Some, None, vec_len, vec_capacity, IsTrue, IsSome, IfOk, OnOk, OnErr, if◌then◌else◌};
+ghost use Rattle.std.specs.Prelude.{◌≡◌, ◌↔◌, ℕ, ◌<◌, ◌≤◌, ◌^◌, ◌∷◌, [], true, length, Option, Some, vec_len, vec_capacity, is_some, IsTrue, IfSome, IfOk, OnOk, OnErr};
 ghost use Rattle.ra_labels.specs.declared.kind.Kind.TheVariants as kinds;
 ghost use Rattle.ra_labels.specs.declared.operation.Op.TheVariants as ops;
 ghost use Rattle.ra_labels.specs.declared.label.Label.{Label};
+ghost use Rattle.ra_labels.specs.declared.label.Stamp.{Stamp};
 ghost use Rattle.ra_labels.specs.declared.command.Command.TheVariants.{Deliver, Join};
 ghost use Rattle.ra_labels.specs.Records.{Records, replica_count};
 ghost use Rattle.ra_labels.specs.Visibility.{has_delivered};
 ghost use Rattle.ra_labels.specs.Rewriting.{acts_of};
-ghost use Rattle.std.specs.Ordering.{is_lt, is_le};
-ghost use Rattle.ra_labels.specs.NamedOrder.{stamp_cmp, named_sequence};
+ghost use Rattle.ra_labels.specs.NamedOrder.{named_sequence};
 ghost use Rattle.ra_labels.specs.Linearization.{updates_admitted};
 ghost use Rattle.ra_labels.specs.Fault.{cause_of};
 ghost use Rattle.ra_labels.specs.Specification.{state_after, is_admitted};
@@ -17,10 +17,11 @@ ghost use Rattle.ra_labels.specs.HistorySoFar.{history_of, NextOperation, operat
 ghost use Rattle.ra_rewrite.specs.Parts.{acts_in};
 ghost use Rattle.ra_seqspec.specs.Asked.{asks_rising};
 ghost use Rattle.std.specs.List.{list_all};
+ghost use Rattle.std.specs.Result.{result_err};
 ghost use Rattle.ra_rga_replica.specs.Edits.{element_at};
 ghost use Rattle.ra_witness.specs.Labels.{queries_in, cause_in};
 ghost use Rattle.ra_witness.specs.Settled.{SettlesMore};
-ghost use Rattle.ra_witness.specs.Rga.{IsRgaOf, MayGrow, MayReceive};
+ghost use Rattle.ra_witness.specs.Rga.{IsRgaOf, IsFoundBy, IsFoundFor, MayGrow, MayReceive};
 ghost use Rattle.ra_witness.specs.Offered.{IsOffered, IsDelivered, IsJoinedFrom};
 
 use crate::queries;
@@ -39,6 +40,24 @@ pub struct Rga {
     pub all: ElementList,
     /// The list of each replica.
     pub lists: Vec<ReplicaList>,
+}
+
+/// What the test of a label found, by number, so that nothing is looked up again when the label is added.
+#[derive(Clone, Copy)]
+pub enum Found {
+    /// Nothing: the label has no update.
+    Nothing,
+    /// The anchor of an insertion.
+    Anchor {
+        /// The number of the anchor.
+        behind: u32,
+        /// The new element.
+        element: u32,
+        /// The stamp of the insertion.
+        stamp: Stamp,
+    },
+    /// The element that a removal takes out.
+    Element(u32),
 }
 
 impl Rga {
@@ -61,57 +80,87 @@ impl Rga {
         })
     }
 
-    /// Returns the first condition, apart from the order, that fails with the next label, which has these parts.
-    pub fn cause(&self, label: &Label, parts: &Parts) -> Option<Cause>
+    /// Returns what the next label names, which has these parts, if it is admitted.
+    ///
+    /// # Errors
+    ///
+    /// The first condition, apart from the order, that fails with the label.
+    pub fn admit(&self, label: &Label, parts: &Parts) -> Result<Found, Cause>
         requires replica { label.now.replica < vec_len self.now.lists }
         requires rising { list_all asks_rising (queries_in (acts_in parts.now)) ≡ true }
-        ensures { (initial_replicas : ℕ) (records : Records) (next : NextOperation)
+        ensures cause { (initial_replicas : ℕ) (records : Records) (next : NextOperation)
             → IsRgaOf self.now initial_replicas records
             → IsOffered (history_of kinds.Rga initial_replicas records) next label.now
             → acts_in parts.now ≡ acts_of next.op
-            → result ≡ cause_of kinds.Rga (operate next ∷ records) }
+            → result_err result ≡ cause_of kinds.Rga (operate next ∷ records) }
+        ensures found { IfOk result (IsFoundFor self.now label.now) }
     {
         match &label.op {
             Op::After { anchor, element } => {
-                update_unless(self.admits_insertion(*anchor, *element, label.stamp))
+                let insertion = self.admit_insertion(*anchor, *element, label.stamp);
+                insertion.ok_or(Cause::Update)
             }
-            Op::RgaRemove(element) => update_unless(self.admits_removal(label.replica, *element)),
-            _ => self.cause_of_query(label.replica, parts),
+            Op::RgaRemove(element) => {
+                let removal = self.admit_removal(label.replica, *element);
+                removal.ok_or(Cause::Update)
+            }
+            _ => match self.cause_of_query(label.replica, parts) {
+                Some(cause) => Err(cause),
+                None => Ok(Found::Nothing),
+            },
         }
     }
 
-    // Returns `true` exactly if the insertion is admitted: its anchor has a smaller stamp, and its element is new.
-    fn admits_insertion(&self, anchor: u32, element: u32, stamp: Option<Stamp>) -> bool
-        ensures { (initial_replicas : ℕ) (records : Records) (next : NextOperation) (label : Label)
+    // Returns the anchor if the insertion is admitted: if the anchor has a smaller stamp, and the element is new.
+    fn admit_insertion(&self, anchor: u32, element: u32, stamp: Option<Stamp>) -> Option<Found>
+        ensures exactly { (initial_replicas : ℕ) (records : Records) (next : NextOperation) (label : Label)
             → IsRgaOf self.now initial_replicas records
             → IsOffered (history_of kinds.Rga initial_replicas records) next label → next.op ≡ ops.After anchor element
-            → label.stamp ≡ stamp → IsTrue result
+            → label.stamp ≡ stamp → IsTrue (is_some result)
             ↔ (updates_admitted kinds.Rga (named_sequence kinds.Rga (operate next ∷ records)) ≡ true) }
+        ensures found { IfSome result (IsFoundBy self.now (ops.After anchor element) stamp) }
     {
-        let Some(number) = self.all.number_of(anchor) else {
-            return false;
+        let Some(behind) = self.all.number_of(anchor) else {
+            return None;
         };
         let Some(stamp) = stamp else {
-            return false;
+            return None;
         };
-        is_below(self.all.stamp(number), stamp) && self.all.number_of(element).is_none()
+        if !self.all.stamp(behind).is_below(stamp) {
+            return None;
+        }
+        match self.all.number_of(element) {
+            Some(_) => None,
+            None => Some(Found::Anchor {
+                behind,
+                element,
+                stamp,
+            }),
+        }
     }
 
-    // Returns `true` exactly if the removal is admitted: its element has no greater stamp than the replica's greatest
-    // one, and is not the root.
-    fn admits_removal(&self, replica: u8, element: u32) -> bool
+    // Returns the element if its removal is admitted: if it has no greater stamp than the replica's greatest one, and
+    // is not the root.
+    fn admit_removal(&self, replica: u8, element: u32) -> Option<Found>
         requires { replica < vec_len self.now.lists }
-        ensures { (initial_replicas : ℕ) (records : Records) (next : NextOperation) (label : Label)
+        ensures exactly { (initial_replicas : ℕ) (records : Records) (next : NextOperation) (label : Label)
             → IsRgaOf self.now initial_replicas records
             → IsOffered (history_of kinds.Rga initial_replicas records) next label → next.by ≡ replica
-            → next.op ≡ ops.RgaRemove element → IsTrue result
+            → next.op ≡ ops.RgaRemove element → IsTrue (is_some result)
             ↔ (updates_admitted kinds.Rga (named_sequence kinds.Rga (operate next ∷ records)) ≡ true) }
+        ensures found { (stamp : Option Stamp) → IfSome result (IsFoundBy self.now (ops.RgaRemove element) stamp) }
     {
         let Some(number) = self.all.number_of(element) else {
-            return false;
+            return None;
         };
+        if number == ROOT {
+            return None;
+        }
         let greatest = self.lists[replica as usize].greatest();
-        number != ROOT && is_up_to(self.all.stamp(number), greatest)
+        if !self.all.stamp(number).is_at_most(greatest) {
+            return None;
+        }
+        Some(Found::Element(number))
     }
 
     // Returns the cause if a query of the replica fails: its list does not answer it, or one of its updates is pending.
@@ -125,13 +174,14 @@ impl Rga {
         queries::cause_if_any(self.lists[replica as usize].state(), parts)
     }
 
-    /// Adds the next label, and returns the number of steps, at most 1.
+    /// Adds the next label, which was admitted with what it names, and returns the number of steps, at most 1.
     ///
     /// # Errors
     ///
     /// `NoMemory` if allocation fails; the same history is represented.
-    pub fn add(&mut self, label: &Label) -> Result<u64, NoMemory>
-        requires { MayGrow self.old label.now }
+    pub fn add(&mut self, label: &Label, found: Found) -> Result<u64, NoMemory>
+        requires may { MayGrow self.old label.now }
+        requires found { IsFoundFor self.old label.now found }
         ensures taken { (initial_replicas : ℕ) (records : Records) (next : NextOperation)
             → IsRgaOf self.old initial_replicas records
             → IsOffered (history_of kinds.Rga initial_replicas records) next label.now
@@ -143,41 +193,44 @@ impl Rga {
             → OnErr result (IsRgaOf self.new initial_replicas records) }
     {
         self.edits.reserve(1)?;
-        match &label.op {
-            Op::After { anchor, element } => self.put_in(label, *anchor, *element),
-            Op::RgaRemove(element) => self.remove(label, *element),
-            _ => {
+        match found {
+            Found::Anchor {
+                behind,
+                element,
+                stamp,
+            } => self.put_in(label, behind, element, stamp),
+            Found::Element(number) => self.remove(label, number),
+            Found::Nothing => {
                 self.edits.push_reserved(None);
                 Ok(0)
             }
         }
     }
 
-    // Adds the next label, which inserts the element behind the anchor.
-    fn put_in(&mut self, label: &Label, anchor: u32, element: u32) -> Result<u64, NoMemory>
+    // Adds the next label, which inserts the element behind the one with this number.
+    fn put_in(
+        &mut self,
+        label: &Label,
+        behind: u32,
+        element: u32,
+        stamp: Stamp,
+    ) -> Result<u64, NoMemory>
         requires room { vec_len self.old.edits < vec_capacity self.old.edits }
         requires replica { label.now.replica < vec_len self.old.lists }
         requires few { length self.old.all.arrivals < 2 ^ 32 }
-        requires stamp { IsSome label.now.stamp }
-        requires known { (n : ℕ) × (n < length self.old.all.arrivals) × (element_at self.old.all.arrivals n ≡ anchor) }
+        requires there { behind < length self.old.all.arrivals }
         requires new { (n : ℕ) → n < length self.old.all.arrivals → ¬ (element_at self.old.all.arrivals n ≡ element) }
         ensures taken { (initial_replicas : ℕ) (records : Records) (next : NextOperation)
             → IsRgaOf self.old initial_replicas records
             → IsOffered (history_of kinds.Rga initial_replicas records) next label.now
             → updates_admitted kinds.Rga (named_sequence kinds.Rga (operate next ∷ records)) ≡ true
-            → next.op ≡ ops.After anchor element
+            → next.op ≡ ops.After (element_at self.old.all.arrivals behind) element → label.now.stamp ≡ Some stamp
             → IfOk result (λ steps. IsRgaOf self.new initial_replicas (operate next ∷ records)
             × SettlesMore records (operate next) next.by steps) }
         ensures step { IfOk result (λ steps. steps ≤ 1) }
         ensures same { (initial_replicas : ℕ) (records : Records) → IsRgaOf self.old initial_replicas records
             → OnErr result (IsRgaOf self.new initial_replicas records) }
     {
-        let Some(behind) = self.all.number_of(anchor) else {
-            unreachable!()
-        };
-        let Some(stamp) = label.stamp else {
-            unreachable!()
-        };
         self.all.reserve()?;
         let number = self.all.len() as u32;
         let list = &mut self.lists[label.replica as usize];
@@ -187,25 +240,22 @@ impl Rga {
         Ok(steps)
     }
 
-    // Adds the next label, which removes the element.
-    fn remove(&mut self, label: &Label, element: u32) -> Result<u64, NoMemory>
+    // Adds the next label, which removes the element with this number.
+    fn remove(&mut self, label: &Label, number: u32) -> Result<u64, NoMemory>
         requires room { vec_len self.old.edits < vec_capacity self.old.edits }
         requires replica { label.now.replica < vec_len self.old.lists }
-        requires known { (n : ℕ) × (n < length self.old.all.arrivals) × (element_at self.old.all.arrivals n ≡ element) }
+        requires there { number < length self.old.all.arrivals }
         ensures taken { (initial_replicas : ℕ) (records : Records) (next : NextOperation)
             → IsRgaOf self.old initial_replicas records
             → IsOffered (history_of kinds.Rga initial_replicas records) next label.now
             → updates_admitted kinds.Rga (named_sequence kinds.Rga (operate next ∷ records)) ≡ true
-            → next.op ≡ ops.RgaRemove element
+            → next.op ≡ ops.RgaRemove (element_at self.old.all.arrivals number)
             → IfOk result (λ steps. IsRgaOf self.new initial_replicas (operate next ∷ records)
             × SettlesMore records (operate next) next.by steps) }
         ensures step { IfOk result (λ steps. steps ≤ 1) }
         ensures same { (initial_replicas : ℕ) (records : Records) → IsRgaOf self.old initial_replicas records
             → OnErr result (IsRgaOf self.new initial_replicas records) }
     {
-        let Some(number) = self.all.number_of(element) else {
-            unreachable!()
-        };
         let list = &mut self.lists[label.replica as usize];
         let steps = list.remove_own(&self.all, label.number, number)?;
         self.edits.push_reserved(Some(Edit::Removes(number)));
@@ -261,27 +311,4 @@ impl Rga {
     pub fn allocator(&self) -> Global {
         *self.edits.allocator()
     }
-}
-
-// Returns the cause of an update that is not admitted.
-fn update_unless(is_admitted: bool) -> Option<Cause>
-    ensures { result ≡ (if is_admitted then None else Some Cause.Update) }
-{
-    if is_admitted {
-        None
-    } else {
-        Some(Cause::Update)
-    }
-}
-
-fn is_below(stamp: Stamp, other: Stamp) -> bool
-    ensures { result ≡ is_lt (stamp_cmp stamp other) }
-{
-    stamp < other
-}
-
-fn is_up_to(stamp: Stamp, other: Stamp) -> bool
-    ensures { result ≡ is_le (stamp_cmp stamp other) }
-{
-    stamp <= other
 }

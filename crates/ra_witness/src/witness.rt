@@ -111,12 +111,12 @@ impl<O: NamedOrder> Witness<O> {
             return Ok(Some(Cause::Order));
         }
         let parts = parts(label)?;
-        let update = match self.kept.check(label, parts) {
-            Ok(update) => update,
+        let admitted = match self.kept.admit(label, parts) {
+            Ok(admitted) => admitted,
             Err(cause) => return Ok(Some(cause)),
         };
         self.order.spare()?;
-        let steps = self.kept.add(label, update)?;
+        let steps = self.kept.add(label, admitted)?;
         self.order.put(label, seen, place);
         self.steps = self.steps.saturating_add(steps);
         Ok(None)

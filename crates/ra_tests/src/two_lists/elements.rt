@@ -1,7 +1,7 @@
 //! The list of all elements, also with many chunks.
 
-use ra_labels::{NoMemory, Stamp};
-use ra_rga_elements::{ElementList, LOWEST, ROOT};
+use ra_labels::{LOWEST, NoMemory, Stamp};
+use ra_rga_elements::{ElementList, ROOT};
 use std::alloc::Global;
 
 // An element of a plain list.

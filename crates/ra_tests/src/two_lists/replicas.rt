@@ -2,8 +2,8 @@
 //! their contract requires some.
 
 use super::elements::insert;
-use ra_labels::{Elements, Query, Stamp};
-use ra_rga_elements::{ElementList, LOWEST, ROOT};
+use ra_labels::{Elements, LOWEST, Query, Stamp};
+use ra_rga_elements::{ElementList, ROOT};
 use ra_rga_replica::ReplicaList;
 use std::alloc::Global;
 use std::process::Abort;

@@ -9,4 +9,4 @@ returns-then-is_past_all c = λ past next stands comes.
 pub returns : goal.returns
 returns c = λ past next stands comes.
     place_found c.self.inside.sorted c.self.inside.replicas _ c.self.view_is _ _ _ _ c.greatest-greatest.ensures
-    c.unwrap_or-rank.ensures past next stands comes _ _ c.position.ensures.split c.is_at_most.ensures
+    c.unwrap_or-rank.ensures past next stands comes _ _ c.position.ensures.split c.is_at_most.ensures.not_above

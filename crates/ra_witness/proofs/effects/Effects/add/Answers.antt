@@ -10,10 +10,10 @@ use Rattle.ra_witness.proofs.effects.Effects.add.Goals as goal
 
 pub add-requires-clause-can : goal.add-requires-clause-can
 add-requires-clause-can c =
-    let may = c.requires in
+    let may = c.requires.may in
     let kept = c.in-Commuting.kept in
     let known = is_commuting c.args.self.now may.past may.stands kept c.in-Commuting.is in
-    can_take kept.updates.items kept.states.items may.past known.states may.next c.args.label.now c.args.update
+    can_take kept.updates.items kept.states.items may.past known.states may.next c.args.label.now c.args.admitted.update
     (not_rga-commuting may.past.kind known.one) may.offered may.update_is
 
 pub returns-in-Commuting-clause-taken : goal.returns-in-Commuting-clause-taken
@@ -21,7 +21,7 @@ returns-in-Commuting-clause-taken c = λ past next stands offered admitted same.
     let kept = c.in-Commuting.kept in
     let known = is_commuting c.args.self.now past stands kept c.in-Commuting.is in
     on_ok_two c.add.result c.add.ensures.updates c.add.ensures.states
-    (commuting_taken kept c.add.new.self past next c.args.label.now c.args.update known offered same)
+    (commuting_taken kept c.add.new.self past next c.args.label.now c.args.admitted.update known offered same)
 
 pub returns-in-Overriding-clause-taken : goal.returns-in-Overriding-clause-taken
 returns-in-Overriding-clause-taken c = λ past next stands offered admitted same.

@@ -1,7 +1,5 @@
 use Rattle.std.proofs.Common.{◌≡◌, ◌<◌, ◌∷◌, ◌++◌, [], ◌∙◌, length, set, Some, refl, sym, ap, subst, arith}
-use Rattle.std.specs.Prelude.{IsSome}
 use Rattle.std.specs.Vec.{with_item}
-use Rattle.std.proofs.lemmas.Bool.{false≢true}
 use Rattle.std.proofs.lemmas.Option.{slice_get_read}
 use Rattle.ra_labels.specs.declared.kind.Kind.TheVariants as variant
 use Rattle.ra_labels.specs.declared.operation.Update.TheVariants.{After}
@@ -18,14 +16,6 @@ use Rattle.ra_witness.proofs.ReplicaLists.{list_read, rga_same, settles_more}
 use Rattle.ra_witness.proofs.TakenElements.{rga_put}
 use Rattle.ra_witness.proofs.rga.Rga.put_in.Goals as goal
 
-pub unreachable-requires : goal.unreachable-requires
-unreachable-requires c =
-    let (n, within, is) = c.requires.known in
-    c.in_default.not-Some n ((c.number_of.ensures n).1 (within, is))
-
-pub unreachable-requires-in_default-stamp : goal.unreachable-requires-in_default-stamp
-unreachable-requires-in_default-stamp c = false≢true (subst (λ o. IsSome o) c.in_default-stamp.is c.requires.stamp)
-
 pub returns-in_err-reserve-clause-same : goal.returns-in_err-reserve-clause-same
 returns-in_err-reserve-clause-same c = λ initial_replicas records stands.
     let self = c.args.self.now in
@@ -35,15 +25,13 @@ returns-in_err-reserve-clause-same c = λ initial_replicas records stands.
 
 pub put_own-requires-clause-anchor : goal.put_own-requires-clause-anchor
 put_own-requires-clause-anchor c =
-    let known = (c.in-Some.ensures c.in-Some.behind).0 refl in
     let count = ap length c.in_ok-reserve.ensures.arrivals in
-    omega (arith, known.0, count)
+    omega (arith, c.requires.there, count)
 
 pub insert-requires-clause-anchor : goal.insert-requires-clause-anchor
 insert-requires-clause-anchor c =
-    let known = (c.in-Some.ensures c.in-Some.behind).0 refl in
     let count = ap length c.in_ok-reserve.ensures.arrivals in
-    omega (arith, known.0, count)
+    omega (arith, c.requires.there, count)
 
 pub returns-in_err-steps-clause-same : goal.returns-in_err-steps-clause-same
 returns-in_err-steps-clause-same c = λ initial_replicas records stands.
@@ -60,12 +48,12 @@ returns-in_err-steps-clause-same c = λ initial_replicas records stands.
     (rga_same spared initial_replicas records there_still r c.put_own.new.self within (c.in_err-steps.ensures.err spared.all.arrivals self.edits.items records r (there_still.lists r list there)))
 
 pub returns-clause-taken : goal.returns-clause-taken
-returns-clause-taken c = λ initial_replicas records next stands offered admitted is.
+returns-clause-taken c = λ initial_replicas records next stands offered admitted is stamped.
     let self = c.args.self.now in
     let label = c.args.label.now in
     let lists = self.lists.items in
     let x = c.args.element in
-    let m = c.in-Some.behind in
+    let m = c.args.behind in
     let all = c.reserve.new.self in
     let spared : Rga = record { edits = self.edits; all = all; lists = self.lists } in
     let room = c.in_ok-reserve.ensures in
@@ -74,12 +62,11 @@ returns-clause-taken c = λ initial_replicas records next stands offered admitte
     let by = its_replica (history_of variant.Rga initial_replicas records) next label offered in
     let was = there_still.lists next.by list
     (list_read self initial_replicas records next label list stands offered c.index_mut-list.ensures.value) in
-    let known = (c.in-Some.ensures m).0 refl in
     let count = ap length room.arrivals in
-    let m_within : m < length all.arrivals = omega (arith, known.0, count) in
-    let m_is : element_at all.arrivals m ≡ c.args.anchor = ap (λ rs. element_at rs m) room.arrivals ∙ known.1 in
-    let makes = subst (λ y. HasUpdate next.op (After y x)) (sym m_is) (makes_after next.op c.args.anchor x is) in
-    let stamped = c.in-Some-stamp.is in
+    let m_within : m < length all.arrivals = omega (arith, c.requires.there, count) in
+    let anchor = element_at self.all.arrivals m in
+    let m_is : element_at all.arrivals m ≡ anchor = ap (λ rs. element_at rs m) room.arrivals in
+    let makes = subst (λ y. HasUpdate next.op (After y x)) (sym m_is) (makes_after next.op anchor x is) in
     let own = c.in_ok-steps.ensures.put self.edits.items records next there_still.elements was
     (ap (λ l. l.number) offered.becomes) makes (sym (ap (λ l. l.stamp) offered.becomes) ∙ stamped) offered.fits admitted in
     let new_list = c.put_own.new.self in
@@ -90,7 +77,7 @@ returns-clause-taken c = λ initial_replicas records next stands offered admitte
     } in
     let pushed : c.push_reserved.new.self.items ≡ self.edits.items ++ Some (PutsIn (length all.arrivals)) ∷ [] =
     c.push_reserved.ensures.items ∙ ap (λ n. self.edits.items ++ Some (PutsIn n) ∷ []) c.len-number.ensures in (
-      rga_put spared grown initial_replicas records next label there_still offered c.args.anchor x m c.in-Some-stamp.stamp new_list is
+      rga_put spared grown initial_replicas records next label there_still offered anchor x m c.args.stamp new_list is
           stamped m_within makes
           (λ n there same.
           c.requires.new n (omega (arith, there, count)) (ap (λ rs. element_at rs n) (sym room.arrivals) ∙ same))

@@ -1,9 +1,8 @@
-use Rattle.std.proofs.Common.{◌<◌, length, set, refl, sym, ap, subst, arith}
+use Rattle.std.proofs.Common.{◌<◌, length, set, refl, ap, arith}
 use Rattle.std.specs.Vec.{with_item}
 use Rattle.std.proofs.lemmas.Option.{slice_get_read}
 use Rattle.ra_labels.specs.declared.kind.Kind.TheVariants as variant
-use Rattle.ra_labels.specs.declared.operation.Update.TheVariants.{RgaRemove}
-use Rattle.ra_labels.specs.Insertion.{HasUpdate}
+use Rattle.ra_rga_replica.specs.Edits.{element_at}
 use Rattle.ra_labels.proofs.Results.{on_err_any}
 use Rattle.ra_labels.specs.HistorySoFar.{history_of}
 use Rattle.ra_witness.specs.declared.rga.Rga.{Rga}
@@ -13,13 +12,8 @@ use Rattle.ra_witness.proofs.ReplicaLists.{list_read, rga_same, settles_more}
 use Rattle.ra_witness.proofs.TakenElements.{rga_removed}
 use Rattle.ra_witness.proofs.rga.Rga.remove.Goals as goal
 
-pub unreachable-requires : goal.unreachable-requires
-unreachable-requires c =
-    let (n, within, is) = c.requires.known in
-    c.in_default.not-Some n ((c.number_of.ensures n).1 (within, is))
-
 pub remove_own-requires : goal.remove_own-requires
-remove_own-requires c = record { number = ((c.in-Some.ensures c.in-Some.number).0 refl).0 }
+remove_own-requires c = record { number = c.requires.there }
 
 pub returns-in_err-steps-clause-same : goal.returns-in_err-steps-clause-same
 returns-in_err-steps-clause-same c = λ initial_replicas records stands.
@@ -37,14 +31,13 @@ returns-clause-taken c = λ initial_replicas records next stands offered admitte
     let self = c.args.self.now in
     let label = c.args.label.now in
     let lists = self.lists.items in
-    let x = c.args.element in
-    let number = c.in-Some.number in
+    let number = c.args.number in
+    let x = element_at self.all.arrivals number in
     let list = c.index_mut-list.result.now in
     let by = its_replica (history_of variant.Rga initial_replicas records) next label offered in
     let was = stands.lists next.by list
     (list_read self initial_replicas records next label list stands offered c.index_mut-list.ensures.value) in
-    let known = (c.in-Some.ensures number).0 refl in
-    let removes = subst (λ y. HasUpdate next.op (RgaRemove y)) (sym known.1) (makes_removal next.op x is) in
+    let removes = makes_removal next.op x is in
     let no_clock = unclocked self.all self.edits.items records stands.elements initial_replicas next label offered x is in
     let own = c.in_ok-steps.ensures.removed self.edits.items records next stands.elements was
     (ap (λ l. l.number) offered.becomes) removes no_clock offered.fits admitted in
@@ -54,7 +47,7 @@ returns-clause-taken c = λ initial_replicas records next stands offered admitte
       all = self.all;
       lists = with_item self.lists label.replica new_list;
     } in (
-      rga_removed self grown initial_replicas records next label stands offered number new_list removes no_clock known.0 admitted
+      rga_removed self grown initial_replicas records next label stands offered number new_list removes no_clock c.requires.there admitted
           c.push_reserved.ensures.items refl (ap (λ r. set lists r new_list) by) own.0,
       settles_more was own.0 own.1,
     )

@@ -9,8 +9,8 @@ returns-then-not-place-clause-cause g c = λ past next stands comes.
     order_fails past.kind past.records next c.place-place.result stands.none (c.place-place.ensures past next stands.order comes)
     (from_not c.place-place.result.fits false c.if-not-place.true)
 
-pub check-requires : goal.check-requires
-check-requires g c =
+pub admit-requires : goal.admit-requires
+admit-requires g c =
     let may = c.requires in
     let is = c.place-place.ensures may.past may.next may.stands.order may.comes in
     record {
@@ -31,8 +31,8 @@ returns-in-Err-clause-cause g c = λ past next stands comes.
     c.in-Err.ensures.cause past next stands.kept offered
     (c.in_ok-parts.ensures.acts ∙ same_op c.args.label.now past.records next comes.becomes)
 
-pub add-requires : goal.add-requires
-add-requires g c =
+pub add-requires-clause-may : goal.add-requires-clause-may
+add-requires-clause-may g c =
     let may = c.requires in
     let is = c.place-place.ensures may.past may.next may.stands.order may.comes in
     let acts = c.in_ok-parts.ensures.acts ∙ same_op c.args.label.now may.past.records may.next may.comes.becomes in
@@ -44,8 +44,8 @@ add-requires g c =
       stands = may.stands.kept;
       offered = offered;
       admitted = all_admitted may.past.kind (operate may.next ∷ may.past.records)
-          (c.in-Ok.ensures.none may.past may.next may.stands.kept offered acts);
-      update_is = update_known c.in-Ok.update _ may.next.op c.in-Ok.ensures.update acts;
+          (c.in-Ok.ensures.cause may.past may.next may.stands.kept offered acts);
+      update_is = update_known c.in-Ok.admitted.update _ may.next.op c.in-Ok.ensures.update acts;
     }
 
 pub put-requires-clause-few : goal.put-requires-clause-few
@@ -63,7 +63,7 @@ returns-clause-cause g c = λ past next stands comes.
     c.args.seen.now c.place-place.result c.requires past next stands comes
     (c.place-place.ensures past next stands.order comes) (from_not c.place-place.result.fits true c.if-not-place.false) in
     let acts = c.in_ok-parts.ensures.acts ∙ same_op c.args.label.now past.records next comes.becomes in
-    c.in-Ok.ensures.none past next stands.kept offered acts
+    c.in-Ok.ensures.cause past next stands.kept offered acts
 
 pub returns-clause-taken : goal.returns-clause-taken
 returns-clause-taken g c = λ past next stands comes same.
@@ -72,17 +72,17 @@ returns-clause-taken g c = λ past next stands comes same.
     c.args.seen.now c.place-place.result c.requires past next stands comes
     (c.place-place.ensures past next stands.order comes) (from_not c.place-place.result.fits true c.if-not-place.false) in
     let acts = c.in_ok-parts.ensures.acts ∙ same_op c.args.label.now past.records next comes.becomes in
-    let because = c.in-Ok.ensures.none past next stands.kept offered acts in
+    let because = c.in-Ok.ensures.cause past next stands.kept offered acts in
     taken g.O.NamedOrder.stands_for c.args.self.now _ past next c.args.label.now c.args.seen.now stands comes because
     (c.put.ensures.stands past next (c.in_ok-spare.ensures.stands past stands.order) comes
     (c.place-place.ensures past next stands.order comes))
-    (c.in_ok-steps.ensures.taken past next stands.kept offered (all_admitted past.kind (operate next ∷ past.records) because) (update_known c.in-Ok.update _ next.op c.in-Ok.ensures.update acts))
+    (c.in_ok-steps.ensures.taken past next stands.kept offered (all_admitted past.kind (operate next ∷ past.records) because) (update_known c.in-Ok.admitted.update _ next.op c.in-Ok.ensures.update acts))
 
 pub returns-clause-counted : goal.returns-clause-counted
 returns-clause-counted g c = λ past next stands comes other same few.
     let acts = c.in_ok-parts.ensures.acts ∙ same_op c.args.label.now past.records next comes.becomes in
     let count = c.in_ok-steps.ensures.counted past stands.kept other in
-    let known = ap steps_of (update_known c.in-Ok.update _ next.op c.in-Ok.ensures.update acts) in
+    let known = ap steps_of (update_known c.in-Ok.admitted.update _ next.op c.in-Ok.ensures.update acts) in
     omega (arith, count, known, few, c.in_ok-steps.ensures.step, c.saturating_add-self.ensures)
 
 pub returns-clause-settled : goal.returns-clause-settled
@@ -92,7 +92,7 @@ returns-clause-settled g c = λ past next stands comes rga same.
     c.args.seen.now c.place-place.result c.requires past next stands comes
     (c.place-place.ensures past next stands.order comes) (from_not c.place-place.result.fits true c.if-not-place.false) in
     let acts = c.in_ok-parts.ensures.acts ∙ same_op c.args.label.now past.records next comes.becomes in
-    let because = c.in-Ok.ensures.none past next stands.kept offered acts in (
+    let because = c.in-Ok.ensures.cause past next stands.kept offered acts in (
       c.in_ok-steps.steps,
       c.in_ok-steps.ensures.settled past next stands.kept offered
           (all_admitted past.kind (operate next ∷ past.records) because) rga,
