@@ -1,12 +1,10 @@
 //! The reporter of a desk, whose contract speaks of the monitor.
-ghost use Rattle.std.specs.Prelude.{◌≡◌, ◌≢◌, ◌+◌, ◌<◌, ◌≤◌, ◌⊎◌, [], length, map, All, IsTrue, IfOk, IfErr, IsOkUnless, Some};
+ghost use Rattle.std.specs.Prelude.{◌≡◌, ◌<◌, ◌≤◌, ◌⊎◌, [], length, map, All, IfOk, IfErr, IsOkUnless, Some};
 ghost use Rattle.std.specs.List.{range_with_len};
 ghost use Rattle.ra_journal.specs.Log.{BeginsWith, entries_of};
-ghost use Rattle.ra_theorems.specs.AnyOrder.{is_of_any_order};
-ghost use Rattle.ra_monitor.specs.Monitor.{answer_after, fault_label_in, IsLegalLog, IsRaLinearizable, IsNoAtFault, IsFinalNo};
-ghost use Rattle.ra_monitor.specs.Replies.{is_yes};
+ghost use Rattle.ra_monitor.specs.Monitor.{fault_label_in, IsLegalLog};
 ghost use Rattle.ra_ticket.specs.Callers.{pass_of, AreOfOneLock};
-ghost use Rattle.ra_ticket.specs.Faults.{unserved, IsWorn, IsFull, IsNoMemory, IsBusy};
+ghost use Rattle.ra_ticket.specs.Faults.{IsWorn, IsBusy};
 ghost use Rattle.ra_ticket.specs.Passes.{pass_setup, seen};
 ghost use Rattle.ra_ticket.specs.declared.draw.TheConstants.{GREATEST_TICKET};
 ghost use Rattle.ra_ticket.specs.declared.open.TheConstants.{MOST_PASSES};
@@ -38,6 +36,7 @@ pub enum DeskCloseFault {
 }
 
 impl DeskReporter {
+    ghost use Rattle.ra_desk.specs.Calls.{IsReport};
     ghost use Rattle.ra_desk.specs.Reports.{number_of, setup_of, log_of, drawn_of, served_of, reports_of, passes_of, before_last};
     ghost use Rattle.ra_desk.specs.Reports.{IsSameReporter, EndsWith, IsReportedOnce, IsFoundBusy, AreOfOneDesk, KnowsWhatEitherKnew, HandsBack, TellsUnsettled};
 
@@ -122,57 +121,12 @@ impl DeskReporter {
     ///
     /// That of `Monitor::step` and of `TicketLock::submit`.
     pub fn tell<R: Wait>(&mut self, rt: &R, command: Command) -> Result<Reply, CallFault<Command>>
-        // It is the same reporter of the same desk with the same setup, and it knows no less of the log and of the
-        // tickets than before.
-        ensures same { IsSameReporter self.old self.new }
-        // If the log that the reporter had seen was legal, the log that it has then seen is legal, even after an error.
-        ensures legal_still { IsLegalLog (setup_of self.old) (log_of self.old)
-            → IsLegalLog (setup_of self.new) (log_of self.new) }
-
-        // After a reply, the log that the reporter has seen ends with this report and its reply.
-        ensures logged { IfOk result (λ reply. EndsWith (log_of self.new) (number_of self.old) command reply) }
-        // Before this entry, that log begins with all that the reporter had seen before the call.
-        ensures not_before { IfOk result (λ reply. BeginsWith (before_last (log_of self.new)) (log_of self.old)) }
-        // After a reply, the reporter's own reports are those before and this one, once.
-        ensures mine { IfOk result (λ reply. IsReportedOnce self.old self.new command reply) }
-        // After a reply, the log that the reporter has seen is legal: each reply in it is the single-threaded monitor's
-        // answer after the entries before it.
-        ensures legal { IfOk result (λ reply. IsLegalLog (setup_of self.new) (log_of self.new)) }
-
-        // The reply is the single-threaded monitor's answer after the entries before it.
-        ensures answer { IfOk result (λ reply.
-            reply ≡ answer_after (setup_of self.new) (before_last (log_of self.new)) command) }
-        // If the reply is `Ok` or `Yes`, some sequence is an RA-linearization of the records up to and with this
-        // report.
-        ensures yes { IfOk result (λ reply. IsTrue (is_yes reply)
-            → IsRaLinearizable (setup_of self.new) (log_of self.new)) }
-        // The reply is `No` with a label and a cause exactly if these are the fault of the records up to and with this
-        // report.
-        ensures no { IfOk result (λ reply. IsNoAtFault (setup_of self.new) (log_of self.new) reply) }
-        // For a counter or an OR-Set a reply `No` is final: no sequence is an RA-linearization of the records up to its
-        // label, not even one that only extends visibility.
-        ensures final_no { IfOk result (λ reply. IsTrue (is_of_any_order (setup_of self.new).kind)
-            → IsFinalNo (setup_of self.new) (log_of self.new) reply) }
-
-        // An error returns the command to the caller.
-        ensures handed_back { IfErr result (λ fault. unserved fault ≡ command) }
-        // After an error, the reporter's own reports are those before.
-        ensures mine_still { IfErr result (λ fault. reports_of self.new ≡ reports_of self.old) }
-        // After `Full`, the log that the reporter has seen has as many entries as the setup allows.
-        ensures full_at_the_limit { IfErr result (λ fault. IsFull fault
-            → length (log_of self.new) ≡ (setup_of self.new).limit) }
-        // After `NoMemory`, the log that the reporter has seen is not at the limit.
-        ensures no_memory_below_the_limit { IfErr result (λ fault. IsNoMemory fault
-            → length (log_of self.new) ≢ (setup_of self.new).limit) }
+        // The call returns what every report does: of the reporter, the log that it has seen, and the reply.
+        ensures report { IsReport self.old self.new command result }
         // `Busy` is never returned.
         ensures never_busy { IfErr result (λ fault. ¬ (IsBusy fault)) }
-        // `Worn` is returned only if all 18,446,744,073,709,551,615 tickets are drawn.
-        ensures worn_at_the_end { IfErr result (λ fault. IsWorn fault → drawn_of self.new ≡ GREATEST_TICKET + 1) }
         // After `Worn`, the reporter has seen nothing more.
         ensures worn_unchanged { IfErr result (λ fault. IsWorn fault → log_of self.new ≡ log_of self.old) }
-        // After `Full` or `NoMemory`, more tickets are served than the reporter knew of before the call.
-        ensures served { IfErr result (λ fault. IsFull fault ⊎ IsNoMemory fault
-            → served_of self.old < served_of self.new) }
     {
         replies_under_lock();
         self.caller.submit(rt, command)
@@ -188,53 +142,8 @@ impl DeskReporter {
     ///
     /// That of `tell`, without the wait.
     pub fn try_tell(&mut self, command: Command) -> Result<Reply, CallFault<Command>>
-        // It is the same reporter of the same desk with the same setup, and it knows no less of the log and of the
-        // tickets than before.
-        ensures same { IsSameReporter self.old self.new }
-        // If the log that the reporter had seen was legal, the log that it has then seen is legal, even after an error.
-        ensures legal_still { IsLegalLog (setup_of self.old) (log_of self.old)
-            → IsLegalLog (setup_of self.new) (log_of self.new) }
-
-        // After a reply, the log that the reporter has seen ends with this report and its reply.
-        ensures logged { IfOk result (λ reply. EndsWith (log_of self.new) (number_of self.old) command reply) }
-        // Before this entry, that log begins with all that the reporter had seen before the call.
-        ensures not_before { IfOk result (λ reply. BeginsWith (before_last (log_of self.new)) (log_of self.old)) }
-        // After a reply, the reporter's own reports are those before and this one, once.
-        ensures mine { IfOk result (λ reply. IsReportedOnce self.old self.new command reply) }
-        // After a reply, the log that the reporter has seen is legal: each reply in it is the single-threaded monitor's
-        // answer after the entries before it.
-        ensures legal { IfOk result (λ reply. IsLegalLog (setup_of self.new) (log_of self.new)) }
-
-        // The reply is the single-threaded monitor's answer after the entries before it.
-        ensures answer { IfOk result (λ reply.
-            reply ≡ answer_after (setup_of self.new) (before_last (log_of self.new)) command) }
-        // If the reply is `Ok` or `Yes`, some sequence is an RA-linearization of the records up to and with this
-        // report.
-        ensures yes { IfOk result (λ reply. IsTrue (is_yes reply)
-            → IsRaLinearizable (setup_of self.new) (log_of self.new)) }
-        // The reply is `No` with a label and a cause exactly if these are the fault of the records up to and with this
-        // report.
-        ensures no { IfOk result (λ reply. IsNoAtFault (setup_of self.new) (log_of self.new) reply) }
-        // For a counter or an OR-Set a reply `No` is final: no sequence is an RA-linearization of the records up to its
-        // label, not even one that only extends visibility.
-        ensures final_no { IfOk result (λ reply. IsTrue (is_of_any_order (setup_of self.new).kind)
-            → IsFinalNo (setup_of self.new) (log_of self.new) reply) }
-
-        // An error returns the command to the caller.
-        ensures handed_back { IfErr result (λ fault. unserved fault ≡ command) }
-        // After an error, the reporter's own reports are those before.
-        ensures mine_still { IfErr result (λ fault. reports_of self.new ≡ reports_of self.old) }
-        // After `Full`, the log that the reporter has seen has as many entries as the setup allows.
-        ensures full_at_the_limit { IfErr result (λ fault. IsFull fault
-            → length (log_of self.new) ≡ (setup_of self.new).limit) }
-        // After `NoMemory`, the log that the reporter has seen is not at the limit.
-        ensures no_memory_below_the_limit { IfErr result (λ fault. IsNoMemory fault
-            → length (log_of self.new) ≢ (setup_of self.new).limit) }
-        // `Worn` is returned only if all 18,446,744,073,709,551,615 tickets are drawn.
-        ensures worn_at_the_end { IfErr result (λ fault. IsWorn fault → drawn_of self.new ≡ GREATEST_TICKET + 1) }
-        // After `Full` or `NoMemory`, more tickets are served than the reporter knew of before the call.
-        ensures served { IfErr result (λ fault. IsFull fault ⊎ IsNoMemory fault
-            → served_of self.old < served_of self.new) }
+        // The call returns what every report does: of the reporter, the log that it has seen, and the reply.
+        ensures report { IsReport self.old self.new command result }
         // `Busy` reports the ticket being served and, above it, the next ticket to draw, and this is what the reporter
         // has then learned of the tickets.
         ensures busy_found { IfErr result (λ fault. IsBusy fault → IsFoundBusy self.new fault) }

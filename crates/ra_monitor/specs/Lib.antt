@@ -1,5 +1,6 @@
 pub mod Replies
 pub mod Monitor
+pub mod Steps
 pub mod Reporter
 pub mod Limits
 pub mod Kept

@@ -1,15 +1,15 @@
 //! The single-threaded monitor: a log, and the representation of its history.
-ghost use Rattle.std.specs.Prelude.{◌≡◌, ℕ, ◌+◌, ◌-◌, ◌<◌, ◌≤◌, ◌++◌, ◌∷◌, ◌↔◌, [], length, map, min, cond, vec_len, vec_capacity, IsTrue, IfSome, IfOk, IfErr, IsOk, OnErr, OnOk, IsErrOf};
+ghost use Rattle.std.specs.Prelude.{◌≡◌, ℕ, ◌+◌, ◌-◌, ◌<◌, ◌≤◌, ◌++◌, ◌∷◌, ◌↔◌, [], length, map, min, cond, vec_len, vec_capacity, IsTrue, IfSome, IfOk, IsOk, OnOk, IsErrOf};
 ghost use Rattle.ra_labels.specs.Records.{label_count, replica_count};
 ghost use Rattle.ra_labels.specs.Visibility.{has_delivered};
 ghost use Rattle.ra_labels.specs.Linearization.{IsRaLinearization};
 ghost use Rattle.ra_labels.specs.NamedOrder.{named_sequence};
-ghost use Rattle.ra_labels.specs.Answer.{answer_of, records_after};
 ghost use Rattle.ra_theorems.specs.AnyOrder.{is_of_any_order};
 ghost use Rattle.ra_monitor.specs.Limits.{AreReplicas, IsLimit};
-ghost use Rattle.ra_journal.specs.Log.{last_ticket_of, unstepped};
+ghost use Rattle.ra_journal.specs.Log.{last_ticket_of};
 ghost use Rattle.ra_witness.specs.Sequence.{ref_of};
-ghost use Rattle.ra_monitor.specs.Replies.{is_yes, is_refused};
+ghost use Rattle.ra_monitor.specs.Replies.{is_refused};
+ghost use Rattle.ra_monitor.specs.Steps.{IsStep};
 
 use crate::faults::NewFault;
 use crate::history::TrackedHistory;
@@ -269,7 +269,7 @@ impl Journal for Monitor {
 
     type Setup = Setup;
 
-    ghost use Rattle.ra_monitor.specs.Monitor.{answer_after, records_of, fault_label_in, IsNextTicket, IsLegalLog, IsRaLinearizable, IsNoAtFault, IsFinalNo};
+    ghost use Rattle.ra_monitor.specs.Monitor.{answer_after, fault_label_in, IsNextTicket};
 
     ghost setup = { λ m. m.setup };
 
@@ -326,49 +326,8 @@ impl Journal for Monitor {
     fn step(&mut self, pass: u8, ticket: u64, command: Command) -> Result<Reply, StepFault<Command>>
         // The ticket is greater than that of the log's last entry.
         requires { IsNextTicket self.old ticket }
-
-        // The reply is the single-threaded monitor's answer to the command after the records of the log.
-        ensures reply { IfOk result (λ reply.
-            reply ≡ answer_of self.old.setup.kind self.old.setup.replicas
-            (records_of self.old.setup self.old.log) command) }
-        // A successful call appends exactly one entry: this pass, this ticket, the command and the reply.
-        ensures logged { IfOk result (λ reply. self.new.log
-            ≡ self.old.log ++ record { pass = pass; ticket = ticket; command = command; reply = reply } ∷ []) }
-        // The setup never changes.
-        ensures same_setup { self.new.setup ≡ self.old.setup }
-        // The log is legal after the call: each reply is the single-threaded monitor's answer after the entries before
-        // it.
-        ensures legal { IsLegalLog self.new.setup self.new.log }
-
-        // If the reply is `Ok` or `Yes`, some sequence is an RA-linearization of the records up to and with this
-        // command.
-        ensures yes { IfOk result (λ reply. IsTrue (is_yes reply) → IsRaLinearizable self.new.setup self.new.log) }
-        // The reply is `No` with a label and a cause exactly if these are the fault of the records up to and with this
-        // command.
-        ensures no { IfOk result (λ reply. IsNoAtFault self.new.setup self.new.log reply) }
-
-        // For a counter or an OR-Set a reply `No` is final: no sequence is an RA-linearization of the records up to its
-        // label, not even one that only extends visibility.
-        ensures final_no { IfOk result (λ reply. IsTrue (is_of_any_order self.new.setup.kind)
-            → IsFinalNo self.new.setup self.new.log reply) }
-
-        // `Full` is returned exactly if the log has as many entries as its limit.
-        ensures full { (result ≡ Err (StepFault.Full command)) ↔ (length self.old.log ≡ self.old.setup.limit) }
-        // After an error, the log is unchanged.
-        ensures unchanged { OnErr result (self.new.log ≡ self.old.log) }
-        // An error returns the command to the caller.
-        ensures handed_back { IfErr result (λ fault. unstepped fault ≡ command) }
-
-        // With room left, a command that leaves the records unchanged is answered, and never fails for lack of memory.
-        // Such replies are a rejection, a `Yes`, and the `No` of an earlier label.
-        ensures settled { 0 < self.old.room
-            → records_after self.old.setup.kind self.old.setup.replicas
-            (records_of self.old.setup self.old.log) command ≡ records_of self.old.setup self.old.log
-            → IsOk result }
-        // With room left, each answer uses the room of exactly one entry.
-        ensures spent { 0 < self.old.room → OnOk result (self.old.room ≡ self.new.room + 1) }
-        // After an error, the room is at least what it was.
-        ensures kept_room { OnErr result (self.old.room ≤ self.new.room) }
+        // The call returns what every report to a monitor does: of the reply, the log, errors and room.
+        ensures step { IsStep self.old self.new pass ticket command result }
     {
         if self.log.len() == self.setup.limit as usize {
             return Err(StepFault::Full(command));

@@ -1,10 +1,7 @@
 //! A monitor with its tickets, for programs that prove nothing about tickets themselves.
-ghost use Rattle.std.specs.Prelude.{◌≡◌, ◌+◌, ◌-◌, ◌<◌, ◌≤◌, ◌++◌, ◌∷◌, ◌↔◌, [], length, min, IsTrue, IfOk, IfErr, IsOk, OnOk, OnErr, IsErrOf};
-ghost use Rattle.ra_labels.specs.Answer.{answer_of, records_after};
-ghost use Rattle.ra_theorems.specs.AnyOrder.{is_of_any_order};
+ghost use Rattle.std.specs.Prelude.{◌≡◌, ◌-◌, ◌≤◌, ◌↔◌, [], length, min, IfOk, IsOk, OnOk, IsErrOf};
 ghost use Rattle.ra_monitor.specs.Limits.{AreReplicas, IsLimit};
-ghost use Rattle.ra_monitor.specs.Replies.{is_yes};
-ghost use Rattle.ra_journal.specs.Log.{unstepped};
+ghost use Rattle.ra_monitor.specs.Steps.{IsStep};
 
 use crate::faults::NewFault;
 use crate::monitor::Monitor;
@@ -33,8 +30,6 @@ impl Model for Reporter {
 }
 
 impl Reporter {
-    ghost use Rattle.ra_monitor.specs.Monitor.{records_of, IsLegalLog, IsRaLinearizable, IsNoAtFault, IsFinalNo};
-
     /// Creates a reporter with a monitor of a history of this kind, with the given number of initial replicas and the
     /// largest number of entries of its log.
     ///
@@ -71,49 +66,9 @@ impl Reporter {
     ///
     /// As `Monitor::step`.
     pub fn tell(&mut self, command: Command) -> Result<Reply, StepFault<Command>>
-        // The reply is the single-threaded monitor's answer to the command after the records of the log.
-        ensures reply { IfOk result (λ reply.
-            reply ≡ answer_of self.old.setup.kind self.old.setup.replicas
-            (records_of self.old.setup self.old.log) command) }
-        // A successful call appends exactly one entry: pass 0, the number of entries before it as its ticket, the
-        // command and the reply.
-        ensures logged { IfOk result (λ reply. self.new.log ≡ self.old.log
-            ++ record { pass = 0; ticket = length self.old.log; command = command; reply = reply } ∷ []) }
-        // The setup never changes.
-        ensures same_setup { self.new.setup ≡ self.old.setup }
-        // The log is legal after the call: each reply is the single-threaded monitor's answer after the entries before
-        // it.
-        ensures legal { IsLegalLog self.new.setup self.new.log }
-
-        // If the reply is `Ok` or `Yes`, some sequence is an RA-linearization of the records up to and with this
-        // command.
-        ensures yes { IfOk result (λ reply. IsTrue (is_yes reply) → IsRaLinearizable self.new.setup self.new.log) }
-        // The reply is `No` with a label and a cause exactly if these are the fault of the records up to and with this
-        // command.
-        ensures no { IfOk result (λ reply. IsNoAtFault self.new.setup self.new.log reply) }
-
-        // For a counter or an OR-Set a reply `No` is final: no sequence is an RA-linearization of the records up to its
-        // label, not even one that only extends visibility.
-        ensures final_no { IfOk result (λ reply. IsTrue (is_of_any_order self.new.setup.kind)
-            → IsFinalNo self.new.setup self.new.log reply) }
-
-        // `Full` is returned exactly if the log has as many entries as its limit.
-        ensures full { (result ≡ Err (StepFault.Full command)) ↔ (length self.old.log ≡ self.old.setup.limit) }
-        // After an error, the log is unchanged.
-        ensures unchanged { OnErr result (self.new.log ≡ self.old.log) }
-        // An error returns the command to the caller.
-        ensures handed_back { IfErr result (λ fault. unstepped fault ≡ command) }
-
-        // With room left, a command that leaves the records unchanged is answered, and never fails for lack of memory.
-        // Such replies are a rejection, a `Yes`, and the `No` of an earlier label.
-        ensures settled { 0 < self.old.room
-            → records_after self.old.setup.kind self.old.setup.replicas
-            (records_of self.old.setup self.old.log) command ≡ records_of self.old.setup self.old.log
-            → IsOk result }
-        // With room left, each answer uses the room of exactly one entry.
-        ensures spent { 0 < self.old.room → OnOk result (self.old.room ≡ self.new.room + 1) }
-        // After an error, the room is at least what it was.
-        ensures kept_room { OnErr result (self.old.room ≤ self.new.room) }
+        // The call returns what every report to a monitor does: of the reply, the log, errors and room. The entry has
+        // pass 0, and the number of entries before it as its ticket.
+        ensures step { IsStep self.old self.new 0 (length self.old.log) command result }
     {
         let ticket = u64::from(self.monitor.calls());
         self.monitor.step(0, ticket, command)

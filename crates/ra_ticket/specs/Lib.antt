@@ -5,4 +5,5 @@ pub mod Rule
 pub mod Steps
 pub mod Passes
 pub mod Callers
+pub mod Calls
 pub mod Dealing

@@ -30,12 +30,13 @@ pub enum CloseFault<M: Journal> {
 }
 
 impl<M: Journal> Caller<M> {
-    ghost use Rattle.std.specs.Prelude.{◌≡◌, ◌≢◌, ◌+◌, ◌<◌, ◌≤◌, ◌⊎◌, [], ◌∷◌, length, map, All};
+    ghost use Rattle.std.specs.Prelude.{◌≡◌, ◌<◌, ◌≤◌, ◌⊎◌, [], ◌∷◌, length, map, All};
     ghost use Rattle.std.specs.Prelude.{IfOk, IfErr, IfSome, IsOkUnless, Some};
     ghost use Rattle.std.specs.List.{range_with_len};
     ghost use Rattle.ra_journal.specs.Log.{BeginsWith, IsLegal, entries_of};
-    ghost use Rattle.ra_ticket.specs.Faults.{unserved, IsWorn, IsFull, IsNoMemory, IsBusy};
-    ghost use Rattle.ra_ticket.specs.Passes.{IsPassOf, IsSamePass, IsLogged, KnowsLegal, IsMineAndThen, IsFoundBusy};
+    ghost use Rattle.ra_ticket.specs.Calls.{IsCall};
+    ghost use Rattle.ra_ticket.specs.Faults.{IsWorn, IsBusy};
+    ghost use Rattle.ra_ticket.specs.Passes.{IsPassOf, IsSamePass, KnowsLegal, IsFoundBusy};
     ghost use Rattle.ra_ticket.specs.Passes.{number_of, next_reached, serving_reached, pass_setup, seen, mine};
     ghost use Rattle.ra_ticket.specs.Passes.{HasSetup, KnowsWhatEitherKnew};
     ghost use Rattle.ra_ticket.specs.declared.draw.TheConstants.{GREATEST_TICKET};
@@ -116,35 +117,10 @@ impl<M: Journal> Caller<M> {
         rt: &R,
         command: M::Command,
     ) -> Result<M::Reply, CallFault<M::Command>>
-        // The caller keeps its number, lock and setup, and knows no less of the tickets and of the log than before.
-        ensures pass { IsSamePass (pass_of self.old) (pass_of self.new) }
-        // After a reply, the log that the caller has seen is legal.
-        ensures legal { IfOk result (λ _. KnowsLegal M.reply_of (pass_of self.new)) }
-        // If the log that the caller had seen was legal, the log that it has then seen is legal, even after an error.
-        ensures legal_still { KnowsLegal M.reply_of (pass_of self.old) → KnowsLegal M.reply_of (pass_of self.new) }
-        // After a reply, the log that the caller has seen begins with all that it had seen and ends with this call and
-        // its reply. The entry's ticket was served during the call.
-        ensures logged { IfOk result (λ r. IsLogged (pass_of self.old) (pass_of self.new) command r) }
-        // After a reply, the caller's own entries are those before and this one, once.
-        ensures mine { IfOk result (λ r. IsMineAndThen (pass_of self.old) (pass_of self.new) command r) }
-        // After an error, the caller's own entries are those before.
-        ensures mine_still { IfErr result (λ _. mine (pass_of self.new) ≡ mine (pass_of self.old)) }
-        // An error returns the command to the caller.
-        ensures handed_back { IfErr result (λ f. unserved f ≡ command) }
-        // `Worn` is returned only if all 18,446,744,073,709,551,615 tickets are drawn.
-        ensures worn_at_the_end { IfErr result (λ f. IsWorn f
-            → next_reached (pass_of self.new) ≡ GREATEST_TICKET + 1) }
+        // The call returns what every call with a command does: of the pass, the log, its own entries and the tickets.
+        ensures call { IsCall M.reply_of M.limit_of (pass_of self.old) (pass_of self.new) command result }
         // After `Worn`, the caller has seen nothing more.
         ensures worn_unchanged { IfErr result (λ f. IsWorn f → seen (pass_of self.new) ≡ seen (pass_of self.old)) }
-        // After `Full`, the log that the caller has seen has as many entries as the limit allows.
-        ensures full_at_the_limit { IfErr result (λ f. IsFull f → IfSome (pass_setup (pass_of self.new))
-            (λ s. length (seen (pass_of self.new)) ≡ M.limit_of s)) }
-        // After `Full` or `NoMemory`, more tickets are served than the caller knew of before the call.
-        ensures served { IfErr result (λ f. IsFull f ⊎ IsNoMemory f
-            → serving_reached (pass_of self.old) < serving_reached (pass_of self.new)) }
-        // After `NoMemory`, the log that the caller has seen is not at the limit.
-        ensures no_memory_below_the_limit { IfErr result (λ f. IsNoMemory f → IfSome (pass_setup (pass_of self.new))
-            (λ s. length (seen (pass_of self.new)) ≢ M.limit_of s)) }
         // `Busy` is never returned.
         ensures never_busy { IfErr result (λ f. ¬ (IsBusy f)) }
     {
@@ -157,33 +133,8 @@ impl<M: Journal> Caller<M> {
     ///
     /// Those of `TicketLock::try_submit`.
     pub fn try_submit(&mut self, command: M::Command) -> Result<M::Reply, CallFault<M::Command>>
-        // The caller keeps its number, lock and setup, and knows no less of the tickets and of the log than before.
-        ensures pass { IsSamePass (pass_of self.old) (pass_of self.new) }
-        // After a reply, the log that the caller has seen is legal.
-        ensures legal { IfOk result (λ _. KnowsLegal M.reply_of (pass_of self.new)) }
-        // If the log that the caller had seen was legal, the log that it has then seen is legal, even after an error.
-        ensures legal_still { KnowsLegal M.reply_of (pass_of self.old) → KnowsLegal M.reply_of (pass_of self.new) }
-        // After a reply, the log that the caller has seen begins with all that it had seen and ends with this call and
-        // its reply. The entry's ticket was served during the call.
-        ensures logged { IfOk result (λ r. IsLogged (pass_of self.old) (pass_of self.new) command r) }
-        // After a reply, the caller's own entries are those before and this one, once.
-        ensures mine { IfOk result (λ r. IsMineAndThen (pass_of self.old) (pass_of self.new) command r) }
-        // After an error, the caller's own entries are those before.
-        ensures mine_still { IfErr result (λ _. mine (pass_of self.new) ≡ mine (pass_of self.old)) }
-        // An error returns the command to the caller.
-        ensures handed_back { IfErr result (λ f. unserved f ≡ command) }
-        // `Worn` is returned only if all 18,446,744,073,709,551,615 tickets are drawn.
-        ensures worn_at_the_end { IfErr result (λ f. IsWorn f
-            → next_reached (pass_of self.new) ≡ GREATEST_TICKET + 1) }
-        // After `Full`, the log that the caller has seen has as many entries as the limit allows.
-        ensures full_at_the_limit { IfErr result (λ f. IsFull f → IfSome (pass_setup (pass_of self.new))
-            (λ s. length (seen (pass_of self.new)) ≡ M.limit_of s)) }
-        // After `Full` or `NoMemory`, more tickets are served than the caller knew of before the call.
-        ensures served { IfErr result (λ f. IsFull f ⊎ IsNoMemory f
-            → serving_reached (pass_of self.old) < serving_reached (pass_of self.new)) }
-        // After `NoMemory`, the log that the caller has seen is not at the limit.
-        ensures no_memory_below_the_limit { IfErr result (λ f. IsNoMemory f → IfSome (pass_setup (pass_of self.new))
-            (λ s. length (seen (pass_of self.new)) ≢ M.limit_of s)) }
+        // The call returns what every call with a command does: of the pass, the log, its own entries and the tickets.
+        ensures call { IsCall M.reply_of M.limit_of (pass_of self.old) (pass_of self.new) command result }
         // `Busy` reports the ticket being served and, above it, the next ticket to draw, and this is what the caller
         // has then learned of the tickets.
         ensures busy_found { IfErr result (λ f. IsBusy f → IsFoundBusy (pass_of self.new) f) }

@@ -19,10 +19,10 @@ pub struct TicketLock<M: Journal> {
 }
 
 impl<M: Journal> TicketLock<M> {
-    ghost use Rattle.std.specs.Prelude.{◌≡◌, ◌≢◌, ◌+◌, ◌<◌, ◌≤◌, ◌⊎◌, length, IfOk, IfErr, IfSome};
-    ghost use Rattle.ra_ticket.specs.Faults.{unserved, IsWorn, IsFull, IsNoMemory, IsBusy};
-    ghost use Rattle.ra_ticket.specs.Passes.{IsPassOf, IsSamePass, IsLogged, KnowsLegal, IsMineAndThen};
-    ghost use Rattle.ra_ticket.specs.Passes.{next_reached, serving_reached, pass_setup, seen, mine, IsFoundBusy};
+    ghost use Rattle.std.specs.Prelude.{◌≡◌, ◌≤◌, ◌⊎◌, IfErr};
+    ghost use Rattle.ra_ticket.specs.Faults.{IsWorn, IsBusy};
+    ghost use Rattle.ra_ticket.specs.Passes.{IsPassOf, next_reached, seen, IsFoundBusy};
+    ghost use Rattle.ra_ticket.specs.Calls.{IsCall};
 
     /// Draws a ticket, waits until it is served, lets the journal answer the command, and publishes the answer.
     ///
@@ -48,34 +48,10 @@ impl<M: Journal> TicketLock<M> {
     ) -> Result<M::Reply, CallFault<M::Command>>
         // The pass belongs to this lock.
         requires own { IsPassOf self.now pass.old }
-        // The pass keeps its number, lock and setup, and knows no less of the tickets and of the log than before.
-        ensures pass { IsSamePass pass.old pass.new }
-        // After a reply, the log that the pass has seen is legal.
-        ensures legal { IfOk result (λ _. KnowsLegal M.reply_of pass.new) }
-        // If the log that the pass had seen was legal, the log that it has then seen is legal, even after an error.
-        ensures legal_still { KnowsLegal M.reply_of pass.old → KnowsLegal M.reply_of pass.new }
-        // After a reply, the log that the pass has seen begins with all that it had seen and ends with this call and
-        // its reply. The entry's ticket was served during the call.
-        ensures logged { IfOk result (λ r. IsLogged pass.old pass.new command r) }
-        // After a reply, the pass's own entries are those before and this one, once.
-        ensures mine { IfOk result (λ r. IsMineAndThen pass.old pass.new command r) }
-        // After an error, the pass's own entries are those before.
-        ensures mine_still { IfErr result (λ _. mine pass.new ≡ mine pass.old) }
-        // An error returns the command to the caller.
-        ensures handed_back { IfErr result (λ f. unserved f ≡ command) }
-        // `Worn` is returned only if all 18,446,744,073,709,551,615 tickets are drawn.
-        ensures worn_at_the_end { IfErr result (λ f. IsWorn f → next_reached pass.new ≡ GREATEST_TICKET + 1) }
+        // The call returns what every call with a command does: of the pass, the log, its own entries and the tickets.
+        ensures call { IsCall M.reply_of M.limit_of pass.old pass.new command result }
         // After `Worn`, the pass has seen nothing more.
         ensures worn_unchanged { IfErr result (λ f. IsWorn f → seen pass.new ≡ seen pass.old) }
-        // After `Full`, the log that the pass has seen has as many entries as the limit allows.
-        ensures full_at_the_limit { IfErr result (λ f. IsFull f
-            → IfSome (pass_setup pass.new) (λ s. length (seen pass.new) ≡ M.limit_of s)) }
-        // After `Full` or `NoMemory`, more tickets are served than the pass knew of before the call.
-        ensures served { IfErr result (λ f. IsFull f ⊎ IsNoMemory f
-            → serving_reached pass.old < serving_reached pass.new) }
-        // After `NoMemory`, the log that the pass has seen is not at the limit.
-        ensures no_memory_below_the_limit { IfErr result (λ f. IsNoMemory f
-            → IfSome (pass_setup pass.new) (λ s. length (seen pass.new) ≢ M.limit_of s)) }
         // `Busy` is never returned.
         ensures never_busy { IfErr result (λ f. ¬ (IsBusy f)) }
     {
@@ -111,32 +87,8 @@ impl<M: Journal> TicketLock<M> {
     ) -> Result<M::Reply, CallFault<M::Command>>
         // The pass belongs to this lock.
         requires own { IsPassOf self.now pass.old }
-        // The pass keeps its number, lock and setup, and knows no less of the tickets and of the log than before.
-        ensures pass { IsSamePass pass.old pass.new }
-        // After a reply, the log that the pass has seen is legal.
-        ensures legal { IfOk result (λ _. KnowsLegal M.reply_of pass.new) }
-        // If the log that the pass had seen was legal, the log that it has then seen is legal, even after an error.
-        ensures legal_still { KnowsLegal M.reply_of pass.old → KnowsLegal M.reply_of pass.new }
-        // After a reply, the log that the pass has seen begins with all that it had seen and ends with this call and
-        // its reply. The entry's ticket was served during the call.
-        ensures logged { IfOk result (λ r. IsLogged pass.old pass.new command r) }
-        // After a reply, the pass's own entries are those before and this one, once.
-        ensures mine { IfOk result (λ r. IsMineAndThen pass.old pass.new command r) }
-        // After an error, the pass's own entries are those before.
-        ensures mine_still { IfErr result (λ _. mine pass.new ≡ mine pass.old) }
-        // An error returns the command to the caller.
-        ensures handed_back { IfErr result (λ f. unserved f ≡ command) }
-        // `Worn` is returned only if all 18,446,744,073,709,551,615 tickets are drawn.
-        ensures worn_at_the_end { IfErr result (λ f. IsWorn f → next_reached pass.new ≡ GREATEST_TICKET + 1) }
-        // After `Full`, the log that the pass has seen has as many entries as the limit allows.
-        ensures full_at_the_limit { IfErr result (λ f. IsFull f
-            → IfSome (pass_setup pass.new) (λ s. length (seen pass.new) ≡ M.limit_of s)) }
-        // After `Full` or `NoMemory`, more tickets are served than the pass knew of before the call.
-        ensures served { IfErr result (λ f. IsFull f ⊎ IsNoMemory f
-            → serving_reached pass.old < serving_reached pass.new) }
-        // After `NoMemory`, the log that the pass has seen is not at the limit.
-        ensures no_memory_below_the_limit { IfErr result (λ f. IsNoMemory f
-            → IfSome (pass_setup pass.new) (λ s. length (seen pass.new) ≢ M.limit_of s)) }
+        // The call returns what every call with a command does: of the pass, the log, its own entries and the tickets.
+        ensures call { IsCall M.reply_of M.limit_of pass.old pass.new command result }
         // `Busy` reports the ticket being served and, above it, the next ticket to draw, and this is what the pass has
         // then learned of the tickets.
         ensures busy_found { IfErr result (λ f. IsBusy f → IsFoundBusy pass.new f) }

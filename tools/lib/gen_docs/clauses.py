@@ -27,7 +27,8 @@ def clause_line(clause):
     name = f"`{clause.name}`" if clause.name else ""
     words = {"requires": "*requires*", "obligation": "*obligation*", "ensures": ""}[clause.word]
     front = " ".join(it for it in (words, name) if it)
-    return bullet(f"{front}: {clause.sentence}" if front else clause.sentence)
+    first = bullet(f"{front}: {clause.sentence}" if front else clause.sentence)
+    return first + "".join(wrapped(f"`{name}`: {sentence}", "  - ", "    ") for name, sentence in clause.parts)
 
 
 def missing_sentences(top, crate):
@@ -57,7 +58,7 @@ def page(top):
     if faults:
         raise Missing(faults)
     listed = [item for crate in crates for _, item in calls(crate)]
-    count = sum(len(it.clauses) for it in listed)
+    count = sum(max(1, len(clause.parts)) for it in listed for clause in it.clauses)
     text = opening("Clauses", "the comments above the clauses of crates/*/src") + PREFACE + "\n"
     text += wrapped(f"{len(listed)} public calls have {count} clauses.")
     return text + "".join(section(top, it) for it in crates) + closing(1)

@@ -1,6 +1,8 @@
 """The contracts in the sources of the crates, as far as a mutant can name what kills it."""
 import re
 
+from gen_docs.records import parts_of
+
 FUNCTION = re.compile(r"^ *(?:pub(?:\(crate\))? )?(?:const )?fn (\w+)")
 CLAUSE = re.compile(r"\b(requires|ensures) *(\w*) *\{")
 OWNER = re.compile(r"^(?:pub(?:\(crate\))? )?(impl|trait|struct|enum)\b(?:<.*?>)? ?(.*)")
@@ -21,20 +23,22 @@ class Contracts:
     def __init__(self, top):
         self.functions, self.facts, self.definitions = {}, {}, {}
         for path in sorted((top / "crates").glob("*/src/**/*.rt")):
-            self.read(path.relative_to(top / "crates").parts[0], path.read_text(encoding="utf-8").splitlines())
+            self.read(path, path.relative_to(top / "crates").parts[0])
         for path in sorted((top / "crates").glob("*/specs/**/*.antt")):
             crate = path.relative_to(top / "crates").parts[0]
             self.definitions.setdefault(crate, []).append(path.read_text(encoding="utf-8"))
 
-    def read(self, crate, lines):
+    def read(self, path, crate):
         owner, contract = "", None
-        for line in lines:
+        for line in path.read_text(encoding="utf-8").splitlines():
             block, ghost = OWNER.match(line), GHOST.match(line)
             if block or line.startswith("}"):
                 owner = owner_of(block[2]) if block else ""
             if ghost:
                 self.facts.setdefault((crate, owner), set()).add(ghost[1])
             contract = self.read_function(crate, owner, contract, line)
+            if contract and CLAUSE.search(line):
+                contract.ensures.update(name for name, _ in parts_of(path, line))
 
     def read_function(self, crate, owner, contract, line):
         """The contract to which the clauses of the next lines belong: none in a body."""

@@ -1,6 +1,8 @@
 """The items of a Rattle source: functions with their contracts, types, constants, and the comments above them."""
 import re
 
+from gen_docs.records import parts_of
+
 ITEM = re.compile(r"^(?P<indent> *)(?P<pub>pub(?:\([a-z]+\))? )?"
                   r"(?P<what>fn|struct|enum|trait|const|type|mod|use) (?P<name>\w*)(?P<rest>.*)$")
 BLOCK = re.compile(r"^(?:unsafe )?(?:impl|(?:pub )?trait)\b")
@@ -9,10 +11,12 @@ CLAUSE = re.compile(r"^ *(requires|ensures)\b *(\w*) *\{")
 
 
 class Clause:
-    """A precondition or postcondition: its word, its name, the sentence above it, its text and its line from 1."""
+    """A precondition or postcondition: its word, its name, the sentence above it, its text and its line from 1; and
+    where it states a record of clauses, the name and the sentence of each part."""
 
-    def __init__(self, word, name, sentence, text, line):
+    def __init__(self, word, name, sentence, text, line, parts=()):
         self.word, self.name, self.sentence, self.text, self.line = word, name, sentence, text, line
+        self.parts = list(parts)
 
 
 class Item:
@@ -150,7 +154,7 @@ class Source:
             if not depth:
                 break
         text = "\n".join(self.lines[first:at])
-        item.clauses.append(Clause(word, name, " ".join(comment), text, first + 1))
+        item.clauses.append(Clause(word, name, " ".join(comment), text, first + 1, parts_of(self.path, text)))
         return at
 
 

@@ -10,7 +10,7 @@ meet-first-requires g c =
     let (lock, all) = c.two_reporters-first.ensures in
     let first = pass_of c.two_reporters-first.result.0.caller in
     let others = pass_of c.two_reporters-first.result.1.caller ∷ [] in
-    let own = c.tell.ensures.same.desk ∙ All-head (IsPassOf lock) first others all in record {
+    let own = c.tell.ensures.report.same.desk ∙ All-head (IsPassOf lock) first others all in record {
       one_desk = (
         lock,
         All-cons (IsPassOf lock) (pass_of c.tell.new.self.caller) others own

@@ -1,34 +1,16 @@
-use Rattle.std.proofs.Common.{◌≡◌, true, ◌∙◌}
-use Rattle.std.proofs.lemmas.Result.{IfOk-weaker}
-use Rattle.ra_theorems.specs.AnyOrder.{is_of_any_order}
-use Rattle.ra_monitor.specs.Monitor.{IsNoAtFault, IsFinalNo}
-use Rattle.ra_ticket.specs.Callers.{pass_of}
-use Rattle.ra_ticket.specs.Passes.{pass_setup, seen}
-use Rattle.ra_desk.specs.Reports.{number_of}
-use Rattle.ra_desk.proofs.Told.{ends_with, said}
+use Rattle.std.proofs.Common.{refl}
+use Rattle.ra_desk.proofs.Told.{reported}
 use Rattle.ra_desk.proofs.reporter.DeskReporter.try_tell.Goals as goal
 
-pub returns-clause-logged : goal.returns-clause-logged
-returns-clause-logged c =
-    let log = seen (pass_of c.try_submit.new.self) in
-    let number = number_of c.args.self.now in
-    IfOk-weaker c.try_submit.result _ _
-    (λ reply known. ends_with log known.before number known.ticket c.args.command reply known.last)
-    c.try_submit.ensures.logged
-
-pub returns-clause-no : goal.returns-clause-no
-returns-clause-no c =
+pub returns-clause-report : goal.returns-clause-report
+returns-clause-report c =
     let setup = c.args.self.now.setup in
-    let after = pass_of c.try_submit.new.self in
-    said c.try_submit.result (pass_setup after) setup (seen after) (number_of c.args.self.now) c.args.command
-    (IsNoAtFault setup) (c.replies_under_lock.ensures.no setup)
-    (c.try_submit.ensures.pass.setup ∙ c.args.self.now.same) (returns-clause-logged c) c.try_submit.ensures.legal
-
-pub returns-clause-final_no : goal.returns-clause-final_no
-returns-clause-final_no c =
-    let setup = c.args.self.now.setup in
-    let after = pass_of c.try_submit.new.self in
-    said c.try_submit.result (pass_setup after) setup (seen after) (number_of c.args.self.now) c.args.command
-    (λ log reply. is_of_any_order setup.kind ≡ true → IsFinalNo setup log reply)
-    (λ before later e legal any. c.replies_under_lock.ensures.final_no setup before later e any legal)
-    (c.try_submit.ensures.pass.setup ∙ c.args.self.now.same) (returns-clause-logged c) c.try_submit.ensures.legal
+    let laws = c.replies_under_lock.ensures in
+    reported c.args.self.now _ c.args.command c.try_submit.result
+    record {
+      reply = laws.reply setup;
+      yes = laws.yes setup;
+      no = laws.no setup;
+      final_no = laws.final_no setup;
+    }
+    refl c.try_submit.ensures.call

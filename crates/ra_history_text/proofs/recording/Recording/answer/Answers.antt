@@ -15,12 +15,12 @@ pub invariant_of-self : goal.invariant_of-self
 invariant_of-self c = elim c.match-step.branch [
   | in-Ok w ↦
       let room = has_room c.step.result w.in-Ok.reply _ (length c.self.inside.monitor.log)
-      c.self.inside.monitor.setup.limit w.in-Ok.is c.step.ensures.full c.self.invariant.fits
+      c.self.inside.monitor.setup.limit w.in-Ok.is c.step.ensures.step.full c.self.invariant.fits
       c.self.invariant.limit in
-      kept_next c.self.inside c.step.new.self _ c.self.invariant w.in-Ok.ensures.logged w.in-Ok.ensures.same_setup
-      (ap length c.log.ensures.entries) room w.in-Ok.ensures.reply
+      kept_next c.self.inside c.step.new.self _ c.self.invariant w.in-Ok.ensures.step.logged w.in-Ok.ensures.step.same_setup
+      (ap length c.log.ensures.entries) room w.in-Ok.ensures.step.reply
   | in-Err w ↦
-      kept_same c.self.inside c.step.new.self c.self.invariant w.in-Err.ensures.unchanged w.in-Err.ensures.same_setup
+      kept_same c.self.inside c.step.new.self c.self.invariant w.in-Err.ensures.step.unchanged w.in-Err.ensures.step.same_setup
 ]
 
 pub returns-clause-full : goal.returns-clause-full
@@ -35,7 +35,7 @@ returns-clause-full c =
       | in-Ok w ↦ rw w.result-is tt
       | in-Err w ↦
           let stops = stops_answering old c.line-number.result c.args.command w.in-Err.fault line
-          (λ is. counted (c.step.ensures.full.0 (w.in-Err.is ∙ ap Err is))) w.in-Err.ensures.handed_back in
+          (λ is. counted (c.step.ensures.step.full.0 (w.in-Err.is ∙ ap Err is))) w.in-Err.ensures.step.handed_back in
           rw (w.result-is, w.fault_at.ensures)
           (subst (λ (r : Recording). StopsAnswering r (fault_at c.line-number.result w.in-Err.fault))
           c.self.view_is stops)

@@ -1,9 +1,9 @@
-use Rattle.std.proofs.Common.{◌≡◌, ℕ, suc, ◌+◌, ◌<◌, ◌∷◌, ◌++◌, [], List, length, refl, sym, ap, ◌∙◌, subst, arith}
+use Rattle.std.proofs.Common.{rules, ◌≡◌, ℕ, suc, ◌+◌, ◌<◌, ◌∷◌, ◌++◌, [], List, length, refl, sym, ap, ◌∙◌, subst, length-append, arith}
 use Rattle.ra_labels.specs.declared.command.Command.{Command}
 use Rattle.ra_labels.specs.Records.{Records}
 use Rattle.ra_labels.specs.Answer.{answer_of, records_after}
 use Rattle.ra_monitor.specs.Monitor.{MonitorEntry, Monitor, records_of, IsRaLinearizable, IsNoAtFault, IsFinalNo, IsNextTicket}
-use Rattle.ra_monitor.specs.Kept.{monitor_of}
+use Rattle.ra_monitor.specs.Kept.{monitor_of, room_in}
 use Rattle.ra_monitor.proofs.Legal.{linearizable_after, no_after, final_no}
 use Rattle.ra_monitor.proofs.NewEntries.{legal_after, kept_after}
 use Rattle.ra_monitor.proofs.monitor.MonitorJournal.step.Goals as goal
@@ -36,35 +36,70 @@ invariant_of-self-in-Ok c =
     let room : length m.log.items < m.setup.limit = omega (arith, c.self.invariant.fits, c.len.ensures, c.if-len-self.false, m.log.ok.0) in
     kept_after m _ (entry_of c) c.self.invariant (next_is c) room (answered c) refl (log_is c) stands c.in-Ok.ensures.one c.answer.ensures.replicas (ap (λ (k : ℕ). m.refused + k) c.refusals.ensures)
 
-pub returns-in-Ok-clause-legal : goal.returns-in-Ok-clause-legal
-returns-in-Ok-clause-legal c = rw (log_is c) (legal_after c.self.inside (entry_of c) c.self.invariant (next_is c) (answered c))
+-- with room left, the entry uses the room of one
+spent_one : (c : goal.After-append) → 0 < c.args.self.now.room
+    → c.args.self.now.room ≡ room_in c.self.inside.setup.limit c.append.new.log + 1
+spent_one c some =
+    let m = c.self.inside in
+    let was : room_in m.setup.limit m.log ≡ c.args.self.now.room = ap (λ (l : Monitor). l.room) c.self.view_is in
+    let same = c.reserve_one.ensures.there (omega (arith, was, some)) in
+    let longer = ap length (log_is c) ∙ length-append m.log.items (entry_of c ∷ []) in
+    omega (arith, was, some, same.1, c.append.ensures.capacity, longer)
 
-pub returns-in-Ok-clause-yes : goal.returns-in-Ok-clause-yes
-returns-in-Ok-clause-yes c = λ said.
-    subst (IsRaLinearizable c.self.inside.setup) (sym (log_is c)) (linearizable_after c.self.inside.setup c.self.inside.log.items (entry_of c) (answered c) said)
-
-pub returns-in-Ok-clause-no : goal.returns-in-Ok-clause-no
-returns-in-Ok-clause-no c =
-    subst (λ (l : List MonitorEntry). IsNoAtFault c.self.inside.setup l c.in-Ok.reply) (sym (log_is c)) (no_after c.self.inside.setup c.self.inside.log.items (entry_of c) (answered c))
-
-pub returns-in-Ok-clause-final_no : goal.returns-in-Ok-clause-final_no
-returns-in-Ok-clause-final_no c = λ any.
+pub returns-in-Ok : goal.returns-in-Ok
+returns-in-Ok c =
     let setup = c.self.inside.setup in
     let log = c.self.inside.log.items in
-    subst (λ (l : List MonitorEntry). IsFinalNo setup l c.in-Ok.reply) (sym (log_is c))
-    (final_no setup (log ++ entry_of c ∷ []) c.in-Ok.reply (no_after setup log (entry_of c) (answered c)) any)
+    record {
+      step = record {
+        reply = search rules;
+        logged = search rules;
+        same_setup = search rules;
+        legal = rw (log_is c) (legal_after c.self.inside (entry_of c) c.self.invariant (next_is c) (answered c));
+        yes = λ said. subst (IsRaLinearizable setup) (sym (log_is c)) (linearizable_after setup log (entry_of c) (answered c) said);
+        no = subst (λ (l : List MonitorEntry). IsNoAtFault setup l c.in-Ok.reply) (sym (log_is c)) (no_after setup log (entry_of c) (answered c));
+        final_no = λ any. subst (λ (l : List MonitorEntry). IsFinalNo setup l c.in-Ok.reply) (sym (log_is c))
+            (final_no setup (log ++ entry_of c ∷ []) c.in-Ok.reply (no_after setup log (entry_of c) (answered c)) any);
+        full = search rules;
+        unchanged = search rules;
+        handed_back = search rules;
+        settled = search rules;
+        spent = spent_one c;
+        kept_room = search rules;
+      };
+    }
 
 -- the call failed, so the command would have been added to the records
-pub returns-in-Err-clause-settled : goal.returns-in-Err-clause-settled
-returns-in-Err-clause-settled c = λ room stays.
+joins_records : (c : goal.In-Err) → (l : Monitor) → monitor_of c.self.inside ≡ l
+    → records_after l.setup.kind l.setup.replicas (records_of l.setup l.log) c.args.command ≡ records_of l.setup l.log → ⊥
+joins_records c l is stays =
     let m = c.self.inside in
     let records = records_of m.setup m.log.items in
     let joins = c.in-Err.ensures.joins records c.self.invariant.history in
     let stays_there : records_after m.setup.kind m.setup.replicas records c.args.command ≡ records =
-    subst (λ (l : Monitor). records_after l.setup.kind l.setup.replicas (records_of l.setup l.log) c.args.command
-    ≡ records_of l.setup l.log) (sym c.self.view_is) stays in
+    subst (λ (k : Monitor). records_after k.setup.kind k.setup.replicas (records_of k.setup k.log) c.args.command
+    ≡ records_of k.setup k.log) (sym is) stays in
     let longer : suc (length records) ≡ length records = ap (λ (r : Records). length r) (sym joins ∙ stays_there) in
-    absurd (omega (arith, longer))
+    omega (arith, longer)
+
+pub returns-in-Err : goal.returns-in-Err
+returns-in-Err c = record {
+  step = record {
+    reply = search rules;
+    logged = search rules;
+    same_setup = search rules;
+    legal = search rules;
+    yes = search rules;
+    no = search rules;
+    final_no = search rules;
+    full = search rules;
+    unchanged = search rules;
+    handed_back = search rules;
+    settled = λ room stays. absurd (joins_records c _ c.self.view_is stays);
+    spent = search rules;
+    kept_room = search rules;
+  };
+}
 
 -- the call failed, and the monitor is unchanged
 pub invariant_of-self-in-Err : goal.invariant_of-self-in-Err
