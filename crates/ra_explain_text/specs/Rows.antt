@@ -1,5 +1,5 @@
 -- The rows of a page.
-use Rattle.std.specs.Prelude.{ℕ, ◌==◌, nat_lt, List, [], ◌∷◌, ◌++◌, length, take, drop, codes, if◌then◌else◌}
+use Rattle.std.specs.Prelude.{ℕ, nat_lt, nat_le, Bool, true, false, ◌&&◌, ◌||◌, List, [], ◌∷◌, ◌++◌, length, take, drop, codes, if◌then◌else◌}
 use Rattle.ra_explain_text.specs.declared.notes.Head.{Head}
 use Rattle.ra_explain_text.specs.declared.notes.Head.TheVariants as head
 use Rattle.ra_explain_text.specs.declared.notes.Note.{Note}
@@ -36,14 +36,33 @@ head_word head.NotDelivered = codes "not delivered"
 head_word head.AtTheEnd = codes "at the end"
 head_word head.Rejected = codes "rejected"
 
--- the bytes before the first line feed (byte 10)
-abbrev pub first_line : List ℕ → List ℕ
-first_line [] = []
-first_line (byte ∷ bytes) = if byte == 10 then [] else byte ∷ first_line bytes
+-- `true` if the head is a word, and not that of a further line
+abbrev pub has_word : Head → Bool
+has_word head.More = false
+has_word other = true
+
+-- `true` if the byte is a space or a visible character of ASCII
+abbrev pub is_printable : ℕ → Bool
+is_printable byte = nat_le 32 byte && nat_le byte 126
+
+-- the bytes before the first that is not printable
+abbrev pub printable : List ℕ → List ℕ
+printable [] = []
+printable (byte ∷ bytes) = if is_printable byte then byte ∷ printable bytes else []
 
 abbrev pub note_bytes : Note → List ℕ
-note_bytes note = row (head_word note.head) (first_line note.text.items)
+note_bytes note = row (head_word note.head) (printable note.text.items)
 
+abbrev pub note_if : Bool → Note → List ℕ
+note_if true note = note_bytes note
+note_if false note = []
+
+-- the lines of these notes, given whether one has a word; further lines before such a line are left out
+abbrev pub notes_from : Bool → List Note → List ℕ
+notes_from is_begun [] = []
+notes_from is_begun (note ∷ notes) =
+    note_if (is_begun || has_word note.head) note ++ notes_from (is_begun || has_word note.head) notes
+
+-- the lines of these notes, the first of which has a word
 abbrev pub notes_bytes : List Note → List ℕ
-notes_bytes [] = []
-notes_bytes (note ∷ notes) = note_bytes note ++ notes_bytes notes
+notes_bytes notes = notes_from false notes

@@ -1,12 +1,11 @@
-//! Notes: the lines of a page whose words no clause states. The head of each is one of a few words.
+//! Notes: the lines of a page whose words no clause states. The head of each is one of a few words, and its bytes are
+//! printable.
 ghost use Rattle.std.specs.Prelude.{◌≡◌, ◌++◌, OnOk};
 ghost use Rattle.ra_explain_text.specs.Rows as rows;
-ghost use Rattle.ra_explain_text.specs.Rows.{head_word, note_bytes, notes_bytes};
+ghost use Rattle.ra_explain_text.specs.Rows.{head_word, note_bytes, note_if, notes_bytes, printable};
 
 use crate::layout::put_row;
-use ra_history_lines::fields::cut_at;
 use ra_labels::NoMemory;
-use std::alloc::Global;
 
 /// The head of a note.
 #[derive(Clone, Copy, Debug, PartialEq, Eq)]
@@ -45,7 +44,7 @@ pub enum Head {
     Rejected,
 }
 
-/// A line of a page: its head, and a text without line feeds.
+/// A line of a page: its head, and a text of printable bytes.
 #[derive(Drop)]
 pub struct Note {
     /// The head.
@@ -65,34 +64,83 @@ pub fn add_note(notes: &mut Vec<Note>, head: Head, words: &str) -> Result<(), No
     Ok(notes.push(Note { head, text })?)
 }
 
-/// Appends the notes, each on a line of its own. Of a text with a line feed the part before it is appended.
+/// Appends the notes, each on a line of its own, from the first with a word as its head on. Of a text with a byte that
+/// is not printable the part before it is appended.
 ///
 /// # Errors
 ///
 /// `NoMemory` if an allocation fails.
 pub fn put_notes(out: &mut Vec<u8>, notes: &[Note]) -> Result<(), NoMemory>
-    // After success, a line for each note is appended, with the word of its head.
+    // After success, a line of printable bytes for each note is appended. The first one has a word as its head.
     ensures { OnOk result (out.new.items ≡ out.old.items ++ notes_bytes notes.now) }
 {
+    let mut is_begun = false;
     for note in notes {
-        put_note(out, note)?;
+        let is_worded = has_word(note.head);
+        is_begun = is_begun || is_worded;
+        put_note_if(out, is_begun, note)?;
     }
     Ok(())
+}
+
+fn put_note_if(out: &mut Vec<u8>, is_begun: bool, note: &Note) -> Result<(), NoMemory>
+    ensures { OnOk result (out.new.items ≡ out.old.items ++ note_if is_begun note.now) }
+{
+    if is_begun {
+        put_note(out, note)
+    } else {
+        Ok(())
+    }
 }
 
 fn put_note(out: &mut Vec<u8>, note: &Note) -> Result<(), NoMemory>
     ensures { OnOk result (out.new.items ≡ out.old.items ++ note_bytes note.now) }
 {
-    put_row(out, word_of(note.head), first_line(&note.text))
+    let mut text = Vec::new(*out.allocator());
+    put_printable(&mut text, &note.text)?;
+    put_row(out, word_of(note.head), &text)
 }
 
-// Returns the bytes before the first line feed.
-fn first_line(text: &[u8]) -> &[u8]
-    ensures { result.now ≡ rows.first_line text.now }
+// Appends the bytes before the first that is not printable.
+fn put_printable(out: &mut Vec<u8>, text: &[u8]) -> Result<(), NoMemory>
+    ensures { OnOk result (out.new.items ≡ out.old.items ++ printable text.now) }
 {
-    match cut_at(b'\n', text) {
-        Some((front, _)) => front,
-        None => text,
+    for byte in text {
+        if !is_printable(*byte) {
+            return Ok(());
+        }
+        out.push(*byte)?;
+    }
+    Ok(())
+}
+
+fn is_printable(byte: u8) -> bool
+    ensures { result ≡ rows.is_printable byte }
+{
+    b' ' <= byte && byte <= b'~'
+}
+
+// Returns `true` if the head is a word, and not that of a further line.
+fn has_word(head: Head) -> bool
+    ensures { result ≡ rows.has_word head }
+{
+    match head {
+        Head::More => false,
+        Head::Differs
+        | Head::GotThere
+        | Head::ExpectedThere
+        | Head::Missing
+        | Head::Unexpected
+        | Head::ItSees
+        | Head::ButNot
+        | Head::ButSees
+        | Head::Rule
+        | Head::NotPossible
+        | Head::Duplicate
+        | Head::Sees
+        | Head::NotDelivered
+        | Head::AtTheEnd
+        | Head::Rejected => true,
     }
 }
 
