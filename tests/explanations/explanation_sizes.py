@@ -14,7 +14,7 @@ from expected import TYPES, UPDATES, History, crossing
 from explanation_case import MOST_STEPS, MOST_TRIED, listed
 from explanation_drawings import MOST_BYTES
 from explanation_faults import Stop
-from explanation_text import cut, headed, with_label
+from explanation_text import cut, headed, line_of_tries, with_label
 from program import CHECK, EXPLAIN, SECONDS, Program
 
 # The labels of long histories, the deliveries of the longest, and the labels of those whose memory is measured.
@@ -78,7 +78,7 @@ def look_at_tries(program, kind, count, lacks, commands):
     lines = [with_label(case, front, count - lacks, behind)] if lacks <= most else []
     head = "or" if lines else "explained if"
     lines += [headed(head, f"line {last} had come before line {line}")] if 2 <= lacks <= most + 1 else []
-    lines = lines or [headed("tried", f"no single change of deliveries explains it ({tried} tried)")]
+    lines = lines or [line_of_tries(tried)]
     found = [it for it in page if it.startswith(("explained if  ", "or              ", "tried  "))]
     require(found == [cut(it) for it in lines], called, found, lines)
 
@@ -215,7 +215,7 @@ def looks(program):
     yield "many that lack", look_at_many_that_lack, program
     yield "how many changes are tried", look_at_each_try, program
     yield "how many deliveries are tried", look_at_deliveries_that_could_have_come, program
-    ends = [(it, f"read {WRONG[it]}", b"no single change of deliveries explains it (2 tried)") for it in TYPES]
+    ends = [(it, f"read {WRONG[it]}", b"none of the 2 changes that were tried explains it") for it in TYPES]
     ends += [(it, UPDATES[it].format(1, 0), f"and {OF_EACH - 4} labels before them".encode()) for it in STAMPED]
     for end in ends:
         yield f"what it costs that b {end[1]} of {end[0]}", look_at_costs, *end

@@ -284,7 +284,12 @@ def words_of_remedies(case):
     if any("misses_line" in it for it in found[:MOST_REMEDIES]):
         yield headed("", "updates that depend on a label are then not delivered either")
     if tried and not found:
-        yield headed("tried", f"no single change of deliveries explains it ({tried} tried)")
+        yield line_of_tries(tried)
+
+
+def line_of_tries(tried):
+    several = f"none of the {tried} changes that were tried explains it"
+    return headed("tried", several if tried > 1 else "the one change that was tried does not explain it")
 
 
 def line_of_remedy(case, head, change):

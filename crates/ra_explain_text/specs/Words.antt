@@ -1,6 +1,6 @@
 -- The explanation as text. Its sentence, the reported and the expected command, and the remedies follow from the
--- explanation. All other lines are notes: the head of a note is one of those of `Head`, so that none reads as a remedy
--- or as an expected result.
+-- explanation. All other lines are notes: the head of a note is one of those of `Head`, and no definition says which
+-- facts follow it.
 use Rattle.std.specs.Prelude.{◌≡◌, ℕ, ◌-◌, ◌==◌, nat_lt, min, Bool, true, false, ◌||◌, List, [], ◌∷◌, ◌++◌, length, take, slice_get, Option, Some, None, codes, decimal, if◌then◌else◌}
 use Rattle.std.specs.List.{list_any}
 use Rattle.std.specs.Option.{option_map_or}
@@ -14,7 +14,6 @@ use Rattle.ra_explain.specs.declared.changes.Change.TheVariants.{Gets, Misses, C
 use Rattle.ra_explain.specs.declared.explanation.Explanation.{Explanation}
 use Rattle.ra_explain.specs.declared.remedies.Remedies.{Remedies}
 use Rattle.ra_explain.specs.declared.violation.Violation.{Violation}
-use Rattle.ra_explain_text.specs.Numbers.{size_word}
 use Rattle.ra_explain_text.specs.Rows.{cut_line, row, notes_bytes}
 use Rattle.ra_explain_text.specs.Quotes.{act_words, line_words, with_label}
 use Rattle.ra_explain_text.specs.declared.notes.Note.{Note}
@@ -118,10 +117,17 @@ abbrev pub depending_row : List Change → List ℕ
 depending_row changes = if list_any is_missing changes
     then row [] (codes "updates that depend on a label are then not delivered either") else []
 
+abbrev pub several_tried : ℕ → List ℕ
+several_tried tried = (codes "none of the " ++ decimal tried) ++ codes " changes that were tried explains it"
+
+abbrev pub tried_words : ℕ → List ℕ
+tried_words tried =
+    if tried == 1 then codes "the one change that was tried does not explain it" else several_tried tried
+
 -- the number of the changes that were tried, if none was found
 abbrev pub tried_row : ℕ → ℕ → List ℕ
 tried_row found tried = if (nat_lt 0 found) || (tried == 0) then []
-    else row (codes "tried") (codes "no single change of deliveries explains it (" ++ (size_word tried ++ codes " tried)"))
+    else row (codes "tried") (tried_words (min tried 4294967295))
 
 abbrev pub rest_rows : Remedies → List ℕ
 rest_rows remedies = others_row (length remedies.found.items - 5)

@@ -5,11 +5,12 @@ ghost use Rattle.ra_explain_text.specs.Rows.{row};
 ghost use Rattle.ra_explain_text.specs.Words as words;
 ghost use Rattle.ra_explain_text.specs.Words.{missing_words};
 
-use crate::layout::{put, put_count, put_row, put_size, small};
+use crate::layout::{put, put_count, put_row, small};
 use crate::quotes::{put_label_and, put_line, put_name};
 use crate::view::View;
 use ra_explain::{Change, Remedies, Violation};
 use ra_history_lines::Names;
+use ra_history_lines::number::put_numbered;
 use ra_labels::{Command, NoMemory};
 
 /// The largest number of remedies that are shown.
@@ -171,10 +172,25 @@ fn put_tried(out: &mut Vec<u8>, remedies: &Remedies) -> Result<(), NoMemory>
         return Ok(());
     }
     let mut text = Vec::new(*out.allocator());
-    put(&mut text, "no single change of deliveries explains it (")?;
-    put_size(&mut text, tried)?;
-    put(&mut text, " tried)")?;
+    put_tried_words(&mut text, small(tried))?;
     put_row(out, "tried", &text)
+}
+
+fn put_tried_words(text: &mut Vec<u8>, tried: u32) -> Result<(), NoMemory>
+    ensures { OnOk result (text.new.items ≡ text.old.items ++ words.tried_words tried) }
+{
+    if tried == 1 {
+        put(text, "the one change that was tried does not explain it")
+    } else {
+        put_several_tried(text, tried)
+    }
+}
+
+fn put_several_tried(text: &mut Vec<u8>, tried: u32) -> Result<(), NoMemory>
+    ensures { OnOk result (text.new.items ≡ text.old.items ++ words.several_tried tried) }
+{
+    put_numbered(text, b"none of the ", tried)?;
+    put(text, " changes that were tried explains it")
 }
 
 fn put_change(
