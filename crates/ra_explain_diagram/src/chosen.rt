@@ -1,5 +1,5 @@
 //! The choice of the log's entries that a picture shows.
-use ra_explain::{Change, Difference, LabelsWith, Violation, labels_with, needed_by, operation_in};
+use ra_explain::{Change, Difference, LabelsWith, Violation, needed_by, operation_in};
 use ra_explain_text::{View, shown};
 use ra_journal::Entry;
 use ra_labels::{Command, NoMemory, Op, Reply};
@@ -93,13 +93,7 @@ fn add_needed(
 }
 
 fn add_insertion(places: &mut Vec<u32>, view: &View<'_>, element: u32) -> Result<(), NoMemory> {
-    let sort = LabelsWith::Element(element);
-    let labels = labels_with(
-        *places.allocator(),
-        &view.explanation.log,
-        &view.explanation.places,
-        sort,
-    )?;
+    let labels = view.labels(*places.allocator(), LabelsWith::Element(element))?;
     match labels.first() {
         Some(label) => add_label(places, view, *label),
         None => Ok(()),

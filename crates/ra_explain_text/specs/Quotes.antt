@@ -36,7 +36,8 @@ quote_in room line =
 -- the text with what the entry at this position says, as far as there is room before the further bytes
 abbrev pub with_quote : List (List ℕ) → List MonitorEntry → ℕ → ℕ → List ℕ → List ℕ
 with_quote names log place further text = text
-    ++ option_map_or (λ entry. quote_in (84 - length text - further) (line_of names entry.command)) (slice_get log place) []
+    ++ option_map_or (λ entry. quote_in (84 - length text - further) (line_of names entry.command))
+    (slice_get log place) []
 
 -- the text with the line of the entry at this position and what it says, in parentheses
 abbrev pub with_place : List (List ℕ) → List MonitorEntry → ℕ → ℕ → List ℕ → List ℕ

@@ -33,8 +33,6 @@ head_word head.NotPossible = codes "not possible"
 head_word head.Duplicate = codes "duplicate"
 head_word head.Sees = codes "sees"
 head_word head.NotDelivered = codes "not delivered"
-head_word head.AtTheEnd = codes "at the end"
-head_word head.Rejected = codes "rejected"
 
 -- `true` if the head is a word, and not that of a further line
 abbrev pub has_word : Head → Bool

@@ -1,6 +1,5 @@
--- The explanation as text. Its sentence, the reported and the expected command, and the remedies follow from the
--- explanation. All other lines are notes: the head of a note is one of those of `Head`, and no definition says which
--- facts follow it.
+-- The explanation as text. All of it follows from the explanation, but for the notes on the reasons of a violation: the
+-- head of a note is one of those of `Head`, and no definition says which facts follow it.
 use Rattle.std.specs.Prelude.{◌≡◌, ℕ, ◌-◌, ◌==◌, nat_lt, min, Bool, true, false, ◌||◌, List, [], ◌∷◌, ◌++◌, length, take, slice_get, Option, Some, None, codes, decimal, if◌then◌else◌}
 use Rattle.std.specs.List.{list_any}
 use Rattle.std.specs.Option.{option_map_or}
@@ -14,6 +13,8 @@ use Rattle.ra_explain.specs.declared.changes.Change.TheVariants.{Gets, Misses, C
 use Rattle.ra_explain.specs.declared.explanation.Explanation.{Explanation}
 use Rattle.ra_explain.specs.declared.remedies.Remedies.{Remedies}
 use Rattle.ra_explain.specs.declared.violation.Violation.{Violation}
+use Rattle.ra_explain_text.specs.Lacks.{undelivered_rows}
+use Rattle.ra_explain_text.specs.Rejections.{rejected_rows}
 use Rattle.ra_explain_text.specs.Rows.{cut_line, row, notes_bytes}
 use Rattle.ra_explain_text.specs.Quotes.{act_words, line_words, with_label}
 use Rattle.ra_explain_text.specs.declared.notes.Note.{Note}
@@ -149,19 +150,23 @@ pass_line labels =
 abbrev pub pass_sentence : ℕ → List ℕ
 pass_sentence labels = codes "\n" ++ (pass_line labels ++ codes "\n\n")
 
+-- what all labels of a pass leave open
+abbrev pub pass_text : List (List ℕ) → Explanation → List ℕ
+pass_text names e = pass_sentence e.report.labels ++ (undelivered_rows names e ++ rejected_rows names e)
+
 -- ---- the text
 
--- the text of a violation, with these notes before and behind the remedies
-abbrev pub violation_text : List (List ℕ) → Explanation → List Note → List Note → Violation → List ℕ
-violation_text names e notes more v = sentence v ++ (reported_row names v
+-- the text of a violation, with these notes before the remedies
+abbrev pub violation_text : List (List ℕ) → Explanation → List Note → Violation → List ℕ
+violation_text names e notes v = sentence v ++ (reported_row names v
     ++ (expected_row names v.fault.cause v.expected ++ (notes_bytes notes
-    ++ (remedy_rows names e v ++ notes_bytes more))))
+    ++ (remedy_rows names e v ++ rejected_rows names e))))
 
 -- the same of a violation or of a pass
-abbrev pub words_for : List (List ℕ) → Explanation → List Note → List Note → Option Violation → List ℕ
-words_for names e notes more (Some v) = violation_text names e notes more v
-words_for names e notes more None = pass_sentence e.report.labels ++ (notes_bytes notes ++ notes_bytes more)
+abbrev pub words_for : List (List ℕ) → Explanation → List Note → Option Violation → List ℕ
+words_for names e notes (Some v) = violation_text names e notes v
+words_for names e notes None = pass_text names e
 
--- Holds if these bytes are the text of the explanation, whatever its notes say.
+-- Holds if these bytes are the text of the explanation, whatever the notes of a violation say.
 abbrev pub IsText : List (List ℕ) → Explanation → List ℕ → Type 0
-IsText names e bytes = (notes more : List Note) × (bytes ≡ words_for names e notes more e.violation)
+IsText names e bytes = (notes : List Note) × (bytes ≡ words_for names e notes e.violation)

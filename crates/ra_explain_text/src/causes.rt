@@ -3,7 +3,7 @@ use crate::layout::{put, put_count, small};
 use crate::notes::{Head, Note, add_note};
 use crate::quotes::{put_label, put_label_and, put_line, put_name};
 use crate::view::View;
-use ra_explain::{LabelsWith, Violation, labels_with, operation_in};
+use ra_explain::{LabelsWith, Violation, operation_in};
 use ra_history_lines::number::put_numbered;
 use ra_labels::{NoMemory, Op};
 
@@ -134,13 +134,7 @@ fn add_insertions(
     head: Head,
     words: &str,
 ) -> Result<bool, NoMemory> {
-    let sort = LabelsWith::Element(element);
-    let found = labels_with(
-        *notes.allocator(),
-        &view.explanation.log,
-        &view.explanation.places,
-        sort,
-    )?;
+    let found = view.labels(*notes.allocator(), LabelsWith::Element(element))?;
     let mut any = false;
     for other in found {
         if other != label {

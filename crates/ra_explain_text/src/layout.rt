@@ -1,5 +1,5 @@
 //! Words, numbers and lines.
-ghost use Rattle.std.specs.Prelude.{◌≡◌, ◌==◌, ◌++◌, min, OnOk, decimal, take, if◌then◌else◌};
+ghost use Rattle.std.specs.Prelude.{◌≡◌, ◌==◌, ◌++◌, min, OnOk, decimal, drop, take, if◌then◌else◌};
 ghost use Rattle.ra_explain_text.specs.Numbers.{size_word};
 ghost use Rattle.ra_explain_text.specs.Rows.{cut_line, padded, row};
 
@@ -27,13 +27,28 @@ pub fn put(out: &mut Vec<u8>, words: &str) -> Result<(), NoMemory>
 }
 
 /// Appends the word, and spaces up to the column at which the facts of a page begin.
+///
+/// # Errors
+///
+/// `NoMemory` if an allocation fails.
 pub fn put_head(out: &mut Vec<u8>, word: &str) -> Result<(), NoMemory>
     // After success, the word is appended, filled with spaces to 16 bytes.
     ensures { OnOk result (out.new.items ≡ out.old.items ++ padded word.now) }
 {
-    put(out, word)?;
-    let filling = SPACES.get(word.len()..).unwrap_or(b"");
-    Ok(out.extend_from_slice(filling)?)
+    put_padded(out, word.as_bytes())
+}
+
+/// Appends the bytes, and spaces up to the column at which the facts of a page begin.
+///
+/// # Errors
+///
+/// `NoMemory` if an allocation fails.
+pub fn put_padded(out: &mut Vec<u8>, word: &[u8]) -> Result<(), NoMemory>
+    // After success, the bytes are appended, filled with spaces to 16 bytes.
+    ensures { OnOk result (out.new.items ≡ out.old.items ++ padded word.now) }
+{
+    out.extend_from_slice(word)?;
+    Ok(out.extend_from_slice(behind(SPACES, word.len()))?)
 }
 
 /// Appends a line with this word at its head. Of a line longer than 100 bytes the first 98 are appended, and two dots.
@@ -122,4 +137,12 @@ pub fn front_of(line: &[u8], most: usize) -> &[u8]
     ensures { result.now ≡ take most line.now }
 {
     line.get(..most).unwrap_or(line)
+}
+
+/// Returns the bytes behind the first ones of the line, of which there are the given number.
+pub fn behind(line: &[u8], count: usize) -> &[u8]
+    // The result is the bytes behind the first ones, of which there are the given number.
+    ensures { result.now ≡ drop count line.now }
+{
+    line.get(count..).unwrap_or(b"")
 }

@@ -38,10 +38,6 @@ pub enum Head {
     Sees,
     /// An update that its replica lacks.
     NotDelivered,
-    /// What a replica lacks at the end.
-    AtTheEnd,
-    /// A rejected line.
-    Rejected,
 }
 
 /// A line of a page: its head, and a text of printable bytes.
@@ -101,8 +97,13 @@ fn put_note(out: &mut Vec<u8>, note: &Note) -> Result<(), NoMemory>
     put_row(out, word_of(note.head), &text)
 }
 
-// Appends the bytes before the first that is not printable.
-fn put_printable(out: &mut Vec<u8>, text: &[u8]) -> Result<(), NoMemory>
+/// Appends the bytes before the first that is not printable.
+///
+/// # Errors
+///
+/// `NoMemory` if an allocation fails.
+pub fn put_printable(out: &mut Vec<u8>, text: &[u8]) -> Result<(), NoMemory>
+    // After success, the bytes of the text before the first that is not printable are appended.
     ensures { OnOk result (out.new.items ≡ out.old.items ++ printable text.now) }
 {
     for byte in text {
@@ -138,9 +139,7 @@ fn has_word(head: Head) -> bool
         | Head::NotPossible
         | Head::Duplicate
         | Head::Sees
-        | Head::NotDelivered
-        | Head::AtTheEnd
-        | Head::Rejected => true,
+        | Head::NotDelivered => true,
     }
 }
 
@@ -162,7 +161,5 @@ fn word_of(head: Head) -> &'static str
         Head::Duplicate => "duplicate",
         Head::Sees => "sees",
         Head::NotDelivered => "not delivered",
-        Head::AtTheEnd => "at the end",
-        Head::Rejected => "rejected",
     }
 }

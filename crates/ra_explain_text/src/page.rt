@@ -1,16 +1,15 @@
 //! The explanation as text.
 ghost use Rattle.std.specs.Prelude.{◌≡◌, ℕ, ◌++◌, List, OnOk};
-ghost use Rattle.ra_explain_text.specs.Rows.{notes_bytes};
 ghost use Rattle.ra_explain_text.specs.Words as words;
 ghost use Rattle.ra_explain_text.specs.Words.{IsText, words_for};
 
 use crate::causes::{add_order, add_update};
 use crate::layout::{put, put_count, put_cut_line, put_row};
 use crate::notes::{Note, put_notes};
-use crate::pass::add_lacking;
+use crate::pass::put_undelivered;
 use crate::query::add_query;
 use crate::quotes::{put_act, put_line};
-use crate::rejected::add_rejections;
+use crate::rejected::put_rejections;
 use crate::remedies::put_remedies;
 use crate::shares::add_shares;
 use crate::view::View;
@@ -25,32 +24,25 @@ use ra_labels::{Cause, Command, NoMemory};
 ///
 /// `NoMemory` if an allocation fails.
 pub fn put_words(out: &mut Vec<u8>, view: &View<'_>) -> Result<(), NoMemory>
-    // After success, the text of the explanation is appended: its sentence, the reported and the expected command and
-    // the remedies, each as the explanation has it, and notes that begin with other words.
+    // After success, the text of the explanation is appended: its sentence, the reported and the expected command, the
+    // remedies, what a pass leaves open, and the rejected lines, each as the explanation has it. The reasons of a
+    // violation are notes that begin with other words.
     ensures { OnOk result ((bytes : List ℕ) × (out.new.items ≡ out.old.items ++ bytes)
         × IsText view.now.names.now view.now.explanation.now bytes) }
 {
-    let alloc = *out.allocator();
-    let mut notes = Vec::new(alloc);
+    let mut notes = Vec::new(*out.allocator());
     add_reasons(&mut notes, view)?;
-    let mut more = Vec::new(alloc);
-    add_rejections(&mut more, view)?;
-    put_text(out, view, &notes, &more)
+    put_text(out, view, &notes)
 }
 
-// Appends the text with these notes before and behind the remedies.
-fn put_text(
-    out: &mut Vec<u8>,
-    view: &View<'_>,
-    notes: &[Note],
-    more: &[Note],
-) -> Result<(), NoMemory>
+// Appends the text with these notes before the remedies.
+fn put_text(out: &mut Vec<u8>, view: &View<'_>, notes: &[Note]) -> Result<(), NoMemory>
     ensures { OnOk result (out.new.items ≡ out.old.items ++ words_for view.now.names.now view.now.explanation.now
-        notes.now more.now view.now.explanation.now.violation) }
+        notes.now view.now.explanation.now.violation) }
 {
     match &view.explanation.violation {
-        Some(violation) => put_violation(out, view, violation, notes, more),
-        None => put_pass(out, view.explanation.report.labels, notes, more),
+        Some(violation) => put_violation(out, view, violation, notes),
+        None => put_pass(out, view),
     }
 }
 
@@ -59,17 +51,16 @@ fn put_violation(
     view: &View<'_>,
     violation: &Violation,
     notes: &[Note],
-    more: &[Note],
 ) -> Result<(), NoMemory>
     ensures { OnOk result (out.new.items ≡ out.old.items ++ words.violation_text view.now.names.now
-        view.now.explanation.now notes.now more.now violation.now) }
+        view.now.explanation.now notes.now violation.now) }
 {
     put_sentence(out, violation)?;
     put_reported(out, view.names, violation)?;
     put_expected(out, view.names, violation.fault.cause, &violation.expected)?;
     put_notes(out, notes)?;
     put_remedies(out, view, violation)?;
-    put_notes(out, more)
+    put_rejections(out, view)
 }
 
 // Appends the line, the label, and the reason of the violation.
@@ -143,14 +134,14 @@ fn put_expected_words(
     }
 }
 
-// Appends that all labels hold.
-fn put_pass(out: &mut Vec<u8>, labels: u32, notes: &[Note], more: &[Note]) -> Result<(), NoMemory>
+// Appends that all labels hold, and what is left open.
+fn put_pass(out: &mut Vec<u8>, view: &View<'_>) -> Result<(), NoMemory>
     ensures { OnOk result (out.new.items
-        ≡ out.old.items ++ (words.pass_sentence labels ++ (notes_bytes notes.now ++ notes_bytes more.now))) }
+        ≡ out.old.items ++ words.pass_text view.now.names.now view.now.explanation.now) }
 {
-    put_pass_sentence(out, labels)?;
-    put_notes(out, notes)?;
-    put_notes(out, more)
+    put_pass_sentence(out, view.explanation.report.labels)?;
+    put_undelivered(out, view)?;
+    put_rejections(out, view)
 }
 
 fn put_pass_sentence(out: &mut Vec<u8>, labels: u32) -> Result<(), NoMemory>
@@ -178,10 +169,10 @@ fn put_holding(out: &mut Vec<u8>, labels: u32) -> Result<(), NoMemory>
     put(out, ": one order explains all results.")
 }
 
-// Adds the reasons of a violation, or what a pass leaves open.
+// Adds the reasons of a violation, if there is one.
 fn add_reasons(notes: &mut Vec<Note>, view: &View<'_>) -> Result<(), NoMemory> {
     let Some(violation) = &view.explanation.violation else {
-        return add_lacking(notes, view);
+        return Ok(());
     };
     match violation.fault.cause {
         Cause::Query => add_query(notes, view, violation)?,

@@ -1,5 +1,5 @@
 //! The pieces of a page: names, line numbers, and quoted lines.
-ghost use Rattle.std.specs.Prelude.{◌≡◌, ◌++◌, OnOk, decimal};
+ghost use Rattle.std.specs.Prelude.{◌≡◌, ◌++◌, [], OnOk, decimal};
 ghost use Rattle.ra_history_writer.specs.Spelling.{line_of, name_of};
 ghost use Rattle.ra_explain_text.specs.Numbers.{line_number};
 ghost use Rattle.ra_explain_text.specs.Quotes as quotes;
@@ -93,7 +93,15 @@ fn put_shortened(out: &mut Vec<u8>, line: &[u8]) -> Result<(), NoMemory>
 }
 
 /// Appends `label N (line K: what the line says)` to the text of a row.
-pub fn put_label(text: &mut Vec<u8>, view: &View<'_>, label: u32) -> Result<(), NoMemory> {
+///
+/// # Errors
+///
+/// `NoMemory` if an allocation fails.
+pub fn put_label(text: &mut Vec<u8>, view: &View<'_>, label: u32) -> Result<(), NoMemory>
+    // After success, the label and its line in the text are appended.
+    ensures { OnOk result (text.new.items ≡ with_label view.now.names.now view.now.explanation.now.log.items
+        view.now.explanation.now.places text.old.items label []) }
+{
     put_label_and(text, view, label, b"")
 }
 
@@ -193,8 +201,9 @@ fn put_beginning(text: &mut Vec<u8>, line: &[u8], most: usize) -> Result<(), NoM
     put(text, " ..")
 }
 
-// Returns the bytes without the spaces at their end.
-fn trimmed(bytes: &[u8]) -> &[u8]
+/// Returns the bytes without the spaces and line feeds at their end.
+pub fn trimmed(bytes: &[u8]) -> &[u8]
+    // The result is the bytes before the whitespace at their end.
     ensures { result.now ≡ quotes.trimmed bytes.now }
 {
     bytes.trim_ascii_end()

@@ -1,133 +1,260 @@
 //! The rejected lines of a history, each with its reason.
-use crate::layout::{put, put_count, small};
-use crate::notes::{Head, Note};
-use crate::quotes::{put_act, put_label, put_label_and, put_line};
+ghost use Rattle.std.specs.Prelude.{◌≡◌, ◌++◌, OnOk, codes};
+ghost use Rattle.ra_explain.specs.LabelFilter.{labels_with};
+ghost use Rattle.ra_explain_text.specs.Quotes.{act_words, line_words};
+ghost use Rattle.ra_explain_text.specs.Rejections as rejections;
+ghost use Rattle.ra_explain_text.specs.Rejections.{others_rejected, refusal_rows, rejected_line, rejected_rows, rejection_word, rows_at, rows_at_each};
+ghost use Rattle.ra_explain_text.specs.Rejections.{why_delivered, with_first, with_owner, with_reason};
+
+use crate::layout::{behind, put, put_count, put_row, small};
+use crate::quotes::{put_act, put_label, put_label_and, put_line, trimmed};
 use crate::view::View;
-use ra_explain::{LabelsWith, labels_with};
+use ra_explain::LabelsWith;
+use ra_history_lines::Names;
 use ra_history_lines::reply::put_reply;
 use ra_labels::{Command, Kind, NoMemory, Op, Refusal, Reply, Stamp};
 
-/// Adds the first rejected lines, each with its reason, and the number of the others.
-pub fn add_rejections(notes: &mut Vec<Note>, view: &View<'_>) -> Result<(), NoMemory> {
+/// The number of bytes of `refused `, with which the reply of a rejected command begins.
+const REFUSED: usize = 8;
+
+/// Appends the first rejected lines, each with its reason, and the number of the others.
+///
+/// # Errors
+///
+/// `NoMemory` if an allocation fails.
+pub fn put_rejections(out: &mut Vec<u8>, view: &View<'_>) -> Result<(), NoMemory>
+    // After success, each rejected line that the explanation names is appended with its reason, and then the number of
+    // the others.
+    ensures { OnOk result (out.new.items
+        ≡ out.old.items ++ rejected_rows view.now.names.now view.now.explanation.now) }
+{
+    let rejected = view.explanation.rejected.as_slice();
     let refused = view.explanation.report.refused;
-    for place in &view.explanation.rejected {
-        add_rejected(notes, view, *place)?;
+    put_rejected(out, view, rejected)?;
+    put_others(out, refused.saturating_sub(small(rejected.len())))
+}
+
+fn put_rejected(out: &mut Vec<u8>, view: &View<'_>, places: &[u32]) -> Result<(), NoMemory>
+    ensures { OnOk result (out.new.items
+        ≡ out.old.items ++ rows_at_each view.now.names.now view.now.explanation.now places.now) }
+{
+    for place in places {
+        put_rejected_at(out, view, *place)?;
     }
-    let others = refused.saturating_sub(small(view.explanation.rejected.len()));
+    Ok(())
+}
+
+fn put_others(out: &mut Vec<u8>, others: u32) -> Result<(), NoMemory>
+    ensures { OnOk result (out.new.items ≡ out.old.items ++ others_rejected others) }
+{
     if others == 0 {
         return Ok(());
     }
-    let mut text = Vec::new(*notes.allocator());
+    let mut text = Vec::new(*out.allocator());
     put_count(&mut text, others, " more line", " more lines")?;
-    Ok(notes.push(Note {
-        head: Head::Rejected,
-        text,
-    })?)
+    put_row(out, "rejected", &text)
 }
 
-fn add_rejected(notes: &mut Vec<Note>, view: &View<'_>, place: u32) -> Result<(), NoMemory> {
-    let Some(entry) = view.explanation.entry(place) else {
-        return Ok(());
-    };
-    match entry.reply {
-        Reply::Refused(why) => add_refusal(notes, view, place, &entry.command, why),
+fn put_rejected_at(out: &mut Vec<u8>, view: &View<'_>, place: u32) -> Result<(), NoMemory>
+    ensures { OnOk result (out.new.items
+        ≡ out.old.items ++ rows_at view.now.names.now view.now.explanation.now place) }
+{
+    match view.explanation.entry(place) {
+        Some(entry) => put_reply_rows(out, view, place, &entry.command, entry.reply),
+        None => Ok(()),
+    }
+}
+
+fn put_reply_rows(
+    out: &mut Vec<u8>,
+    view: &View<'_>,
+    place: u32,
+    command: &Command,
+    reply: Reply,
+) -> Result<(), NoMemory>
+    ensures { OnOk result (out.new.items ≡ out.old.items
+        ++ rejections.reply_rows view.now.names.now view.now.explanation.now place command.now reply) }
+{
+    match reply {
+        Reply::Refused(why) => put_refusal(out, view, place, command, why),
         Reply::Ok(_) | Reply::Got(_) | Reply::Joined(_) | Reply::Yes(_) | Reply::No { .. } => Ok(
             (),
         ),
     }
 }
 
-// Adds a rejected line, and the reason as a note of its own. The name of an unknown replica is not stored, so a line
-// with one is shown by its number alone.
-fn add_refusal(
-    notes: &mut Vec<Note>,
+// Appends a rejected line, and the reason on a further one.
+fn put_refusal(
+    out: &mut Vec<u8>,
     view: &View<'_>,
     place: u32,
     command: &Command,
     why: Refusal,
-) -> Result<(), NoMemory> {
-    let mut text = Vec::new(*notes.allocator());
-    put_line(&mut text, place)?;
+) -> Result<(), NoMemory>
+    ensures { OnOk result (out.new.items ≡ out.old.items
+        ++ refusal_rows view.now.names.now view.now.explanation.now place command.now why) }
+{
+    let alloc = *out.allocator();
+    let mut text = Vec::new(alloc);
+    put_rejected_line(&mut text, view.names, place, command, why)?;
+    put_row(out, "rejected", &text)?;
+    let mut reason = Vec::new(alloc);
+    put_word(&mut reason, why)?;
+    put_reason(&mut reason, view, command, why)?;
+    put_row(out, "", &reason)
+}
+
+// Appends the line and what it says. The name of an unknown replica is not stored, so a line with one is shown by its
+// number alone.
+fn put_rejected_line(
+    text: &mut Vec<u8>,
+    names: &Names,
+    place: u32,
+    command: &Command,
+    why: Refusal,
+) -> Result<(), NoMemory>
+    ensures { OnOk result (text.new.items
+        ≡ text.old.items ++ rejected_line names.now place command.now why) }
+{
     match why {
-        Refusal::UnknownReplica | Refusal::TooManyReplicas => {}
-        _ => {
-            put(&mut text, ": ")?;
-            put_act(&mut text, view.names, command)?;
-        }
+        Refusal::UnknownReplica | Refusal::TooManyReplicas => put_line(text, place),
+        Refusal::WrongKind
+        | Refusal::BadList
+        | Refusal::StampMissing
+        | Refusal::StampUnwanted
+        | Refusal::StampTaken
+        | Refusal::IdTaken
+        | Refusal::UnknownLabel
+        | Refusal::NotAnUpdate
+        | Refusal::AlreadySeen
+        | Refusal::NotCausal(_)
+        | Refusal::ReplicaThere => put_whole_line(text, names, place, command),
     }
-    notes.push(Note {
-        head: Head::Rejected,
-        text,
-    })?;
-    let mut text = Vec::new(*notes.allocator());
-    put_word(&mut text, why)?;
-    put_reason(&mut text, view, command, why)?;
-    Ok(notes.push(Note {
-        head: Head::More,
-        text,
-    })?)
+}
+
+fn put_whole_line(
+    text: &mut Vec<u8>,
+    names: &Names,
+    place: u32,
+    command: &Command,
+) -> Result<(), NoMemory>
+    ensures { OnOk result (text.new.items
+        ≡ text.old.items ++ (line_words place ++ (codes ": " ++ act_words names.now command.now))) }
+{
+    put_line(text, place)?;
+    put(text, ": ")?;
+    put_act(text, names, command)
 }
 
 // Appends the word of the rejection, as in replies.
-fn put_word(out: &mut Vec<u8>, why: Refusal) -> Result<(), NoMemory> {
-    let mut line = Vec::new(*out.allocator());
+fn put_word(text: &mut Vec<u8>, why: Refusal) -> Result<(), NoMemory>
+    ensures { OnOk result (text.new.items ≡ text.old.items ++ (rejection_word why ++ codes ": ")) }
+{
+    let mut line = Vec::new(*text.allocator());
     put_reply(&mut line, Reply::Refused(why))?;
-    if let Some(word) = line.as_slice().strip_prefix(b"refused ") {
-        out.extend_from_slice(word.trim_ascii_end())?;
-    }
-    put(out, ": ")
+    text.extend_from_slice(trimmed(behind(&line, REFUSED)))?;
+    put(text, ": ")
 }
 
 fn put_reason(
-    out: &mut Vec<u8>,
+    text: &mut Vec<u8>,
     view: &View<'_>,
     command: &Command,
     why: Refusal,
-) -> Result<(), NoMemory> {
+) -> Result<(), NoMemory>
+    ensures { OnOk result (text.new.items ≡ with_reason view.now.names.now view.now.explanation.now
+        text.old.items command.now why) }
+{
     match why {
         Refusal::UnknownReplica => put(
-            out,
+            text,
             "it names a replica that neither line 2 nor a join names",
         ),
-        Refusal::WrongKind => put(out, wrong_kind(view.explanation.setup.kind, command)),
-        Refusal::BadList => put(out, "the list is not strictly increasing"),
-        Refusal::StampMissing => put(out, clock_missing(command)),
-        Refusal::StampUnwanted => put(out, "this operation may not have a clock"),
-        Refusal::StampTaken => put_taken(out, view, "its clock", stamp_of(command)),
-        Refusal::IdTaken => put_taken(out, view, "its identifier", identifier_of(command)),
-        Refusal::UnknownLabel => put(out, "no operation has this label so far"),
-        Refusal::NotAnUpdate => put(out, "the label is a query: queries are not delivered"),
-        Refusal::AlreadySeen => put(out, why_seen(view, command)),
+        Refusal::WrongKind => put(text, wrong_kind(view.explanation.setup.kind, command)),
+        Refusal::BadList => put(text, "the list is not strictly increasing"),
+        Refusal::StampMissing => put(text, clock_missing(command)),
+        Refusal::StampUnwanted => put(text, "this operation may not have a clock"),
+        Refusal::StampTaken => put_stamp_owner(text, view, command),
+        Refusal::IdTaken => put_identifier_owner(text, view, command),
+        Refusal::UnknownLabel => put(text, "no operation has this label so far"),
+        Refusal::NotAnUpdate => put(text, "the label is a query: queries are not delivered"),
+        Refusal::AlreadySeen => put(text, why_seen(view, command)),
         Refusal::NotCausal(missing) => {
-            put_label_and(out, view, missing, b" has to be delivered first")
+            put_label_and(text, view, missing, b" has to be delivered first")
         }
-        Refusal::ReplicaThere => put(out, "the replica exists already"),
-        Refusal::TooManyReplicas => put(out, "there are 64 replicas, and no more may join"),
+        Refusal::ReplicaThere => put(text, "the replica exists already"),
+        Refusal::TooManyReplicas => put(text, "there are 64 replicas, and no more may join"),
     }
 }
 
 // Returns the reason why this kind does not have the operation of the command.
-fn wrong_kind(kind: Kind, command: &Command) -> &'static str {
-    match (kind, command) {
-        (
-            Kind::OrSet,
-            Command::Operate {
-                op: Op::LwwAdd(_) | Op::LwwRemove(_),
-                ..
-            },
-        ) => "an OR-Set's add and remove need an identifier, as add 4 #1",
-        (
-            Kind::LwwSet,
-            Command::Operate {
-                op: Op::OrAdd { .. } | Op::OrRemove { .. },
-                ..
-            },
-        ) => "an LWW set's operations have a clock, as @1, and no identifier",
-        _ => operations_of(kind),
+fn wrong_kind(kind: Kind, command: &Command) -> &'static str
+    ensures { result.now ≡ rejections.wrong_kind kind command.now }
+{
+    match kind {
+        Kind::OrSet => {
+            if is_clocked(command) {
+                "an OR-Set's add and remove need an identifier, as add 4 #1"
+            } else {
+                operations_of(kind)
+            }
+        }
+        Kind::LwwSet => {
+            if is_tagged(command) {
+                "an LWW set's operations have a clock, as @1, and no identifier"
+            } else {
+                operations_of(kind)
+            }
+        }
+        Kind::Counter | Kind::Register | Kind::Rga => operations_of(kind),
     }
 }
 
-fn operations_of(kind: Kind) -> &'static str {
+// Returns `true` for an update of an LWW set.
+fn is_clocked(command: &Command) -> bool
+    ensures { result ≡ rejections.is_clocked command.now }
+{
+    match command {
+        Command::Operate { op, .. } => is_clocked_op(op),
+        Command::Deliver { .. } | Command::Join { .. } | Command::Verdict => false,
+    }
+}
+
+fn is_clocked_op(op: &Op) -> bool
+    ensures { result ≡ rejections.is_clocked_op op.now }
+{
+    match op {
+        Op::LwwAdd(_) | Op::LwwRemove(_) => true,
+        Op::Inc | Op::Dec | Op::Count(_) | Op::Write(_) | Op::Last(_) | Op::LwwRead(_) => false,
+        Op::OrAdd { .. } | Op::OrRemove { .. } | Op::OrRead(_) => false,
+        Op::After { .. } | Op::RgaRemove(_) | Op::RgaRead(_) => false,
+    }
+}
+
+// Returns `true` for an update of an OR-Set.
+fn is_tagged(command: &Command) -> bool
+    ensures { result ≡ rejections.is_tagged command.now }
+{
+    match command {
+        Command::Operate { op, .. } => is_tagged_op(op),
+        Command::Deliver { .. } | Command::Join { .. } | Command::Verdict => false,
+    }
+}
+
+fn is_tagged_op(op: &Op) -> bool
+    ensures { result ≡ rejections.is_tagged_op op.now }
+{
+    match op {
+        Op::OrAdd { .. } | Op::OrRemove { .. } => true,
+        Op::Inc | Op::Dec | Op::Count(_) | Op::Write(_) | Op::Last(_) => false,
+        Op::LwwAdd(_) | Op::LwwRemove(_) | Op::LwwRead(_) | Op::OrRead(_) => false,
+        Op::After { .. } | Op::RgaRemove(_) | Op::RgaRead(_) => false,
+    }
+}
+
+fn operations_of(kind: Kind) -> &'static str
+    ensures { result.now ≡ rejections.operations_of kind }
+{
     match kind {
         Kind::Counter => "a counter's operations are inc, dec and read",
         Kind::Register => "a register's operations are write and read",
@@ -137,7 +264,9 @@ fn operations_of(kind: Kind) -> &'static str {
     }
 }
 
-fn clock_missing(command: &Command) -> &'static str {
+fn clock_missing(command: &Command) -> &'static str
+    ensures { result.now ≡ rejections.clock_missing command.now }
+{
     match command {
         Command::Operate { stamp: Some(_), .. } => "the clock is 0: clocks begin at 1",
         _ => "a clock is missing, for example @1",
@@ -145,19 +274,31 @@ fn clock_missing(command: &Command) -> &'static str {
 }
 
 // Returns how the label of this delivery came to be seen at its replica.
-fn why_seen(view: &View<'_>, command: &Command) -> &'static str {
+fn why_seen(view: &View<'_>, command: &Command) -> &'static str
+    ensures { result.now ≡ rejections.why_seen view.now.explanation.now command.now }
+{
     match command {
-        Command::Deliver { replica, label } if view.explanation.issuer(*label) == Some(*replica) =>
-            { "the replica issued the label itself" }
-        Command::Deliver { replica, label }
-            if view.explanation.delivery(*replica, *label).is_none() => {
-            "the replica had the label when it joined"
-        }
-        _ => "the label was delivered to the replica before",
+        Command::Deliver { replica, label } => why_delivered(view, *replica, *label),
+        Command::Operate { .. } | Command::Join { .. } | Command::Verdict =>
+            "the label was delivered to the replica before",
     }
 }
 
-fn stamp_of(command: &Command) -> Option<LabelsWith> {
+fn why_delivered(view: &View<'_>, replica: u8, label: u32) -> &'static str
+    ensures { result.now ≡ why_delivered view.now.explanation.now replica label }
+{
+    if view.explanation.issuer(label) == Some(replica) {
+        "the replica issued the label itself"
+    } else if view.explanation.delivery(replica, label).is_none() {
+        "the replica had the label when it joined"
+    } else {
+        "the label was delivered to the replica before"
+    }
+}
+
+fn stamp_of(command: &Command) -> Option<LabelsWith>
+    ensures { result ≡ rejections.stamp_of command.now }
+{
     match command {
         Command::Operate {
             replica,
@@ -171,36 +312,70 @@ fn stamp_of(command: &Command) -> Option<LabelsWith> {
     }
 }
 
-fn identifier_of(command: &Command) -> Option<LabelsWith> {
+fn identifier_of(command: &Command) -> Option<LabelsWith>
+    ensures { result ≡ rejections.identifier_of command.now }
+{
     match command {
-        Command::Operate {
-            op: Op::OrAdd { id, .. },
-            ..
-        } => Some(LabelsWith::Identifier(*id)),
+        Command::Operate { op, .. } => identifier_in(op),
+        Command::Deliver { .. } | Command::Join { .. } | Command::Verdict => None,
+    }
+}
+
+fn identifier_in(op: &Op) -> Option<LabelsWith>
+    ensures { result ≡ rejections.identifier_in op.now }
+{
+    match op {
+        Op::OrAdd { id, .. } => Some(LabelsWith::Identifier(*id)),
         _ => None,
     }
 }
 
-// Appends the label that already has this clock or identifier.
-fn put_taken(
-    out: &mut Vec<u8>,
+// Appends the label that already has this clock.
+fn put_stamp_owner(text: &mut Vec<u8>, view: &View<'_>, command: &Command) -> Result<(), NoMemory>
+    ensures { OnOk result (text.new.items ≡ with_owner view.now.names.now view.now.explanation.now
+        (text.old.items ++ codes "its clock is used by ") (rejections.stamp_of command.now)) }
+{
+    put(text, "its clock is used by ")?;
+    put_owner(text, view, stamp_of(command))
+}
+
+// Appends the label that already has this identifier.
+fn put_identifier_owner(
+    text: &mut Vec<u8>,
     view: &View<'_>,
-    what: &str,
-    sort: Option<LabelsWith>,
-) -> Result<(), NoMemory> {
-    put(out, what)?;
-    put(out, " is used by ")?;
-    let Some(sort) = sort else {
-        return put(out, "another label");
-    };
-    let labels = labels_with(
-        *out.allocator(),
-        &view.explanation.log,
-        &view.explanation.places,
-        sort,
-    )?;
-    match labels.first() {
-        Some(label) => put_label(out, view, *label),
-        None => put(out, "another label"),
+    command: &Command,
+) -> Result<(), NoMemory>
+    ensures { OnOk result (text.new.items ≡ with_owner view.now.names.now view.now.explanation.now
+        (text.old.items ++ codes "its identifier is used by ") (rejections.identifier_of command.now)) }
+{
+    put(text, "its identifier is used by ")?;
+    put_owner(text, view, identifier_of(command))
+}
+
+fn put_owner(text: &mut Vec<u8>, view: &View<'_>, key: Option<LabelsWith>) -> Result<(), NoMemory>
+    ensures { OnOk result (text.new.items ≡ with_owner view.now.names.now view.now.explanation.now
+        text.old.items key) }
+{
+    match key {
+        Some(key) => put_first_with(text, view, key),
+        None => put(text, "another label"),
+    }
+}
+
+fn put_first_with(text: &mut Vec<u8>, view: &View<'_>, key: LabelsWith) -> Result<(), NoMemory>
+    ensures { OnOk result (text.new.items ≡ with_first view.now.names.now view.now.explanation.now
+        text.old.items (labels_with view.now.explanation.now.log.items view.now.explanation.now.places key)) }
+{
+    let labels = view.labels(*text.allocator(), key)?;
+    put_first(text, view, &labels)
+}
+
+fn put_first(text: &mut Vec<u8>, view: &View<'_>, labels: &[u32]) -> Result<(), NoMemory>
+    ensures { OnOk result (text.new.items ≡ with_first view.now.names.now view.now.explanation.now
+        text.old.items labels.now) }
+{
+    match labels {
+        [] => put(text, "another label"),
+        [first, ..] => put_label(text, view, *first),
     }
 }

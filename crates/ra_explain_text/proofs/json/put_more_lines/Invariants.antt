@@ -4,4 +4,5 @@ use Rattle.ra_explain_text.proofs.json.put_more_lines.Given as goal
 
 -- the places so far are written
 abbrev pub invariant-loop-place : goal.invariant-loop-place
-invariant-loop-place l = l.out.items ++ more_lines (drop l.place-index l.places) ≡ l.initial.out.items ++ more_lines l.places
+invariant-loop-place l = l.out.items ++ more_lines (drop l.place-index l.places)
+    ≡ l.initial.out.items ++ more_lines l.places
