@@ -9,9 +9,9 @@ use Rattle.ra_explain.specs.declared.explanation.Explanation.{Explanation}
 use Rattle.ra_explain.specs.declared.explanation.Purpose.{Purpose}
 use Rattle.ra_explain.specs.declared.explanation.Purpose.TheVariants.{Drawing, Object, Text}
 use Rattle.ra_explain.specs.Explains.{Explains}
-use Rattle.ra_explain_text.specs.Document.{ContainsText}
 use Rattle.ra_explain_text.specs.Json.{object_of}
-use Rattle.ra_explain_text.specs.Words.{IsText}
+use Rattle.ra_explain_diagram.specs.Drawings.{PutsDrawing}
+use Rattle.ra_explain_diagram.specs.Pages.{PutsDocument, PutsPage}
 use Rattle.ra_history_text.specs.declared.fault.CheckFault.{CheckFault}
 use Rattle.ra_history_text.specs.declared.fault.CheckFault.TheVariants.{Endless, NoMemory, Write}
 use Rattle.ra_history_text.specs.declared.outcome.Outcome.{Outcome}
@@ -36,13 +36,13 @@ purpose_for Json = Some Object
 purpose_for Svg = Some Drawing
 purpose_for Sequence = None
 
--- Holds if the explanation was appended in this form: the text with a picture behind it, the object, or a document that
--- contains the text. A drawing is not described.
+-- Holds if the explanation was appended in this form: the text with a picture behind it, the object, a drawing with the
+-- check's end line as its title, or a document with that title and the text.
 abbrev pub PutsExplanation : Form → Explanation → List (List ℕ) → List ℕ → List ℕ → Type 0
-PutsExplanation Page e names old new = (words picture : List ℕ) × IsText names e words × (new ≡ old ++ words ++ picture)
+PutsExplanation Page e names old new = PutsPage names e old new
 PutsExplanation Json e names old new = new ≡ old ++ object_of names e
-PutsExplanation Html e names old new = (words : List ℕ) × IsText names e words × ContainsText old new words
-PutsExplanation Svg e names old new = ⊤
+PutsExplanation Html e names old new = PutsDocument names e old new
+PutsExplanation Svg e names old new = PutsDrawing e.report old new
 PutsExplanation Sequence e names old new = ⊤
 
 -- holds if the body of a page shows an explanation of this log for this purpose; without a purpose it is a sequence,

@@ -23,8 +23,8 @@ use std::io::{Read, Write};
 /// Explains the text that the reader provides on `out`, and writes the line of an error on `err`. The status is that of
 /// a check of the text, or 2 if the page cannot be made or written. A plain page begins with the check's own end line.
 ///
-/// For a text with a fault, page, object and document show the line and the field. No clause states that, nor the
-/// picture, the drawing and the sequence.
+/// For a text with a fault, page, object and document show the line and the field. No clause states that, nor what a
+/// picture and a drawing show, nor the sequence.
 pub fn explain<R: Read, W: Write, E: Write>(
     alloc: Global,
     form: Form,
@@ -33,8 +33,9 @@ pub fn explain<R: Read, W: Write, E: Write>(
     err: &mut E,
 ) -> Ending
     // If the check of the text succeeds, all of it is read, and a page is written with the check's status. The page
-    // shows the explanation of the text's history: as the object, or as the text, which in plain form follows the
-    // check's end line. Otherwise, and after a failed write or allocation, the status is 2.
+    // shows the explanation of the text's history: as the object, as the text, which in plain form follows the check's
+    // end line, or as a drawing that has this line as its title. Otherwise, and after a failed write or allocation, the
+    // status is 2.
     ensures explained { ExplainsText form result (R.remaining reader.old) (R.remaining reader.new)
         (W.contents out.old) (W.contents out.new) (E.contents err.old) (E.contents err.new) }
     // Unless the status is 2, nothing is written on `err`.

@@ -1,5 +1,5 @@
 -- The content of a row in a diagram.
-use Rattle.std.specs.Prelude.{◌≡◌, ℕ, ◌==◌, Bool, true, false, ◌||◌, List, [], ◌∷◌, ◌++◌, Contains, Option, Some, None, option_map, slice_get, codes, decimal, if◌then◌else◌, ⊤}
+use Rattle.std.specs.Prelude.{◌≡◌, ℕ, ◌+◌, ◌-◌, ◌==◌, nat_lt, nat_le, Bool, true, false, ◌&&◌, ◌||◌, List, [], ◌∷◌, ◌++◌, Contains, Option, Some, None, option_map, option_and_then, slice_get, codes, decimal, if◌then◌else◌, ⊤}
 use Rattle.ra_labels.specs.declared.command.Command.{Command}
 use Rattle.ra_labels.specs.declared.command.Command.TheVariants.{Operate, Deliver, Join, Verdict}
 use Rattle.ra_labels.specs.declared.reply.Reply.{Reply}
@@ -114,3 +114,32 @@ IsHelpful remedies (row.With label) = Contains remedies.found.items (Gets label)
 IsHelpful remedies (row.Without place) = Contains remedies.found.items (Misses place)
 IsHelpful remedies (row.Before place) = Contains remedies.found.items (ComesBefore place)
 IsHelpful remedies row = ⊤
+
+-- ---- the rows of a diagram as a way through the log
+
+-- the position behind this one if the row is that of an entry at it, before the violating label
+abbrev pub behind_entry : (asked at place : ℕ) → Option ℕ
+behind_entry asked at place = if (place == at) && nat_lt at asked then Some (at + 1) else None
+
+-- The position to which the row leads from this one, given that of the violating label; none if the row may not stand
+-- there. A remedy stands before the entry at its position.
+abbrev pub led_by : ℕ → ℕ → Row → Option ℕ
+led_by asked at (row.Fold count) = if nat_le (at + count) asked then Some (at + count) else None
+led_by asked at (row.Entry place) = behind_entry asked at place
+led_by asked at (row.Without place) = behind_entry asked at place
+led_by asked at (row.With label) = if at == asked then Some at else None
+led_by asked at (row.Before place) = if (place == at) && nat_le at asked then Some at else None
+led_by asked at row.Asked = if at == asked then Some (at + 1) else None
+
+-- the position to which the rows lead from this one, each from that of the row before it
+abbrev pub led_from : ℕ → ℕ → List Row → Option ℕ
+led_from asked at [] = Some at
+led_from asked at (row ∷ rows) = option_and_then (λ next. led_from asked next rows) (led_by asked at row)
+
+-- holds if the rows lead from the first entry of the log to this position, without a gap
+abbrev pub LeadTo : ℕ → ℕ → List Row → Type 0
+LeadTo asked at rows = led_from asked 0 rows ≡ Some at
+
+-- the row of the entries between these positions, if there are any
+abbrev pub fold_between : ℕ → ℕ → List Row
+fold_between from to = if nat_lt from to then row.Fold (to - from) ∷ [] else []

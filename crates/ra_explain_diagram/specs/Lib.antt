@@ -1,1 +1,5 @@
 pub mod Drawn
+pub mod Drawings
+pub mod Pictures
+pub mod Tables
+pub mod Pages

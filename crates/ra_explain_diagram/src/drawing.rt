@@ -1,6 +1,7 @@
 //! The content of a picture: rows from top to bottom, and a column for each replica that takes part, up to eight.
-ghost use Rattle.std.specs.Prelude.{◌≡◌, All, Contains, IfOk, OnOk};
-ghost use Rattle.ra_explain_diagram.specs.Drawn.{IsHelpful, replica_of, source_of};
+ghost use Rattle.std.specs.Prelude.{◌≡◌, ◌≤◌, ◌+◌, ◌++◌, All, Contains, IfOk, OnOk, Some};
+ghost use Rattle.ra_explain.specs.declared.remedies.Remedies.{Remedies};
+ghost use Rattle.ra_explain_diagram.specs.Drawn.{IsHelpful, LeadTo, fold_between, led_by, replica_of, source_of};
 
 use crate::chosen::places_of;
 use ra_explain::{Change, Remedies, Violation};
@@ -56,21 +57,21 @@ impl Picture {
         // Each row for a change shows one of the remedies.
         ensures helpful { IfOk result (λ picture.
             All (IsHelpful view.now.explanation.now.remedies) picture.rows.items) }
+        // The rows show or fold each entry of the log from the first on, and end with the violating label.
+        ensures whole { IfOk result (λ picture.
+            LeadTo violation.now.place (violation.now.place + 1) picture.rows.items) }
     {
         let places = places_of(alloc, view, violation)?;
         let columns = columns_of(alloc, view, violation, &places)?;
         let mut rows = Vec::new(alloc);
         let mut next = 0;
         for at in &places {
-            if is_at_one(view, &columns, *at) {
-                let folded = at.saturating_sub(next);
-                if folded > 0 {
-                    rows.push(Row::Fold(folded))?;
-                }
-                add_rows(&mut rows, view, violation, *at)?;
-                next = at.saturating_add(1);
+            if next <= *at && *at < violation.place && is_at_one(view, &columns, *at) {
+                add_rows(&mut rows, view, violation, next, *at)?;
+                next = *at + 1;
             }
         }
+        add_rows(&mut rows, view, violation, next, violation.place)?;
         Ok(Picture { columns, rows })
     }
 
@@ -94,30 +95,75 @@ impl Picture {
     }
 }
 
-// Appends the row of the entry at this index, with those of helpful changes before it.
+// Appends the row of the entry at this index, and before it a row of the entries from `next` on and those of helpful
+// changes.
+#[tactic(auto, using(crate::proofs::Leads::lead_fold, crate::proofs::Leads::helpful_fold))]
 fn add_rows(
+    rows: &mut Vec<Row>,
+    view: &View<'_>,
+    violation: &Violation,
+    next: u32,
+    at: u32,
+) -> Result<(), NoMemory>
+    requires helpful { All (IsHelpful view.now.explanation.now.remedies) rows.old.items }
+    requires lead { LeadTo violation.now.place next rows.old.items }
+    requires behind { next ≤ at }
+    requires within { at ≤ violation.now.place }
+    ensures helpful { OnOk result (All (IsHelpful view.now.explanation.now.remedies) rows.new.items) }
+    ensures lead { OnOk result (LeadTo violation.now.place (at + 1) rows.new.items) }
+{
+    add_fold(rows, next, at)?;
+    add_event_rows(rows, view, violation, at)
+}
+
+// Appends the row of the entries between these indices, if there are any.
+fn add_fold(rows: &mut Vec<Row>, from: u32, to: u32) -> Result<(), NoMemory>
+    ensures { OnOk result (rows.new.items ≡ rows.old.items ++ fold_between from to) }
+{
+    if from < to {
+        rows.push(Row::Fold(to - from))?;
+    }
+    Ok(())
+}
+
+// Appends the row of the entry at this index, with those of helpful changes before it.
+#[tactic(auto, using(crate::proofs::Leads::lead_more))]
+fn add_event_rows(
     rows: &mut Vec<Row>,
     view: &View<'_>,
     violation: &Violation,
     at: u32,
 ) -> Result<(), NoMemory>
-    requires { All (IsHelpful view.now.explanation.now.remedies) rows.old.items }
-    ensures { OnOk result (All (IsHelpful view.now.explanation.now.remedies) rows.new.items) }
+    requires helpful { All (IsHelpful view.now.explanation.now.remedies) rows.old.items }
+    requires lead { LeadTo violation.now.place at rows.old.items }
+    requires within { at ≤ violation.now.place }
+    ensures helpful { OnOk result (All (IsHelpful view.now.explanation.now.remedies) rows.new.items) }
+    ensures lead { OnOk result (LeadTo violation.now.place (at + 1) rows.new.items) }
 {
-    let mut row = if at == violation.place {
-        Row::Asked
-    } else {
-        Row::Entry(at)
-    };
     let remedies = &view.explanation.remedies;
+    let mut row = row_of(violation.place, at);
     for change in shown(remedies) {
         row = add_change(rows, row, remedies, violation.place, at, *change)?;
     }
     Ok(rows.push(row)?)
 }
 
+// Returns the row of the entry at this index.
+fn row_of(asked: u32, at: u32) -> Row
+    requires within { at ≤ asked }
+    ensures own { (remedies : Remedies) → IsHelpful remedies result }
+    ensures lead { led_by asked at result ≡ Some (at + 1) }
+{
+    if at == asked {
+        Row::Asked
+    } else {
+        Row::Entry(at)
+    }
+}
+
 // Appends the row of the change if it is drawn before the entry at this index. Returns the row of the entry, which is
 // another one if the change leaves the entry out.
+#[tactic(auto, using(crate::proofs::Leads::lead_more))]
 fn add_change(
     rows: &mut Vec<Row>,
     row: Row,
@@ -129,12 +175,17 @@ fn add_change(
     requires helpful { All (IsHelpful remedies.now) rows.old.items }
     requires own { IsHelpful remedies.now row }
     requires found { Contains remedies.now.found.items change }
+    requires lead { LeadTo asked at rows.old.items }
+    requires last { led_by asked at row ≡ Some (at + 1) }
+    requires within { at ≤ asked }
     ensures helpful { OnOk result (All (IsHelpful remedies.now) rows.new.items) }
     ensures own { IfOk result (IsHelpful remedies.now) }
+    ensures lead { OnOk result (LeadTo asked at rows.new.items) }
+    ensures last { IfOk result (λ row. led_by asked at row ≡ Some (at + 1)) }
 {
     match change {
         Change::Gets(label) if at == asked => rows.push(Row::With(label))?,
-        Change::Misses(missed) if missed == at => return Ok(Row::Without(at)),
+        Change::Misses(missed) if missed == at && at != asked => return Ok(Row::Without(at)),
         Change::ComesBefore(next) if next == at => rows.push(Row::Before(at))?,
         _ => {}
     }

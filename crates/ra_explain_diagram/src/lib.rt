@@ -3,10 +3,11 @@
 //! document with the text (HTML).
 //!
 //! The contract for the layer above: each call returns, and the error `NoMemory` means that an allocation failed.
-//! `put_page` appends the text of the explanation and a picture, `put_html` a document that contains the text. Each row
-//! of a picture shows the line, the words, the replicas and the dashes of its entry, label or remedy (`Event::of`,
-//! `specs/Drawn`), and each dashed row is one of the remedies (`Picture::of`). No clause states which entries are drawn
-//! or where; stored pages and the model test that (`tests/explanations`).
+//! `put_page` appends the text of the explanation and for a violation a picture, `put_html` the document with the text,
+//! and `put_svg` a drawing (`specs/Pages`). An event has the line, the words, the replicas and the dashes of its entry,
+//! label or remedy (`Event::of`, `specs/Drawn`). The rows leave no gap up to the violating label, and each dashed one
+//! is a remedy (`Picture::of`). A line of the picture has the head of its event in front (`specs/Pictures`). No clause
+//! states which entries are drawn, or how; stored pages and the model test that (`tests/explanations`).
 #![tactic(auto)]
 
 mod chosen;

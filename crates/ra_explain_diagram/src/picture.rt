@@ -1,10 +1,14 @@
 //! The picture as characters.
+ghost use Rattle.std.specs.Prelude.{◌≡◌, ℕ, ◌++◌, ◌∷◌, [], IfOk, List, OnOk};
+ghost use Rattle.ra_explain_diagram.specs.Pictures.{ShowsEvent, ShowsPicture, ShowsRow, ShowsRows, fold_count, fold_line, left_out_line, not_drawn_line, picture_line};
+
 use crate::drawing::{Picture, Row};
 use crate::event::Event;
 use ra_explain::Violation;
-use ra_explain_text::{View, put, put_count};
+use ra_explain_text::{View, behind, put, put_count, put_padded, put_printable, trimmed};
 use ra_history_lines::number::put_numbered;
 use ra_labels::NoMemory;
+use std::alloc::Global;
 
 /// The position of the first column, the width of a page, and the largest width of a column.
 const MARGIN: usize = 16;
@@ -13,41 +17,143 @@ const PAGE: usize = 100;
 
 const WIDEST: usize = 28;
 
-/// Appends the picture, with replicas as columns and events as rows.
-pub fn put_picture(
+/// Returns the picture, with replicas as columns and events as rows, behind an empty line.
+///
+/// # Errors
+///
+/// `NoMemory` if an allocation fails.
+pub fn picture_with(
+    alloc: Global,
+    view: &View<'_>,
+    violation: &Violation,
+    picture: &Picture,
+) -> Result<Vec<u8>, NoMemory>
+    ensures { IfOk result (λ bytes. ShowsPicture view.now.names.now view.now.explanation.now violation.now
+        picture.now.rows.items bytes.items) }
+{
+    let names = names_of(alloc, view, picture)?;
+    let body = rows_of(alloc, view, violation, picture)?;
+    let mut out = Vec::new(alloc);
+    put_parts(&mut out, &names, &body, picture.left_out(view))?;
+    Ok(out)
+}
+
+// Appends an empty line, the line of names, the rows, and the number of replicas without a column.
+fn put_parts(out: &mut Vec<u8>, names: &[u8], body: &[u8], others: u32) -> Result<(), NoMemory>
+    ensures { OnOk result (out.new.items ≡ out.old.items
+        ++ (10 ∷ (picture_line [] names.now ++ (body.now ++ left_out_line others)))) }
+{
+    put(out, "\n")?;
+    put_line_with(out, b"", names)?;
+    out.extend_from_slice(body)?;
+    put_left_out(out, others)
+}
+
+// Returns the lines of the rows.
+fn rows_of(
+    alloc: Global,
+    view: &View<'_>,
+    violation: &Violation,
+    picture: &Picture,
+) -> Result<Vec<u8>, NoMemory>
+    ensures { IfOk result (λ bytes. ShowsRows view.now.names.now view.now.explanation.now violation.now
+        picture.now.rows.items bytes.items) }
+{
+    let mut out = Vec::new(alloc);
+    for row in &picture.rows {
+        put_row(&mut out, view, violation, picture, *row)?;
+    }
+    Ok(out)
+}
+
+fn put_row(
     out: &mut Vec<u8>,
     view: &View<'_>,
     violation: &Violation,
     picture: &Picture,
-) -> Result<(), NoMemory> {
-    put(out, "\n")?;
-    put_names(out, view, picture)?;
-    for row in &picture.rows {
-        match row {
-            Row::Fold(count) => put_fold(out, *count)?,
-            other => put_event(out, view, violation, picture, *other)?,
-        }
+    row: Row,
+) -> Result<(), NoMemory>
+    ensures { OnOk result ((bytes : List ℕ)
+        × ShowsRow view.now.names.now view.now.explanation.now violation.now row bytes
+        × (out.new.items ≡ out.old.items ++ bytes)) }
+{
+    match folded_in(row) {
+        Some(count) => put_fold(out, count),
+        None => put_event(out, view, violation, picture, row),
     }
-    put_left_out(out, picture.left_out(view))
 }
 
-/// Appends the number of entries that are not drawn between two others.
-fn put_fold(out: &mut Vec<u8>, count: u32) -> Result<(), NoMemory> {
+fn folded_in(row: Row) -> Option<u32>
+    ensures { result ≡ fold_count row }
+{
+    match row {
+        Row::Fold(count) => Some(count),
+        Row::Entry(_) | Row::Without(_) | Row::With(_) | Row::Before(_) | Row::Asked => None,
+    }
+}
+
+// Appends the number of entries that are not drawn between two others.
+fn put_fold(out: &mut Vec<u8>, count: u32) -> Result<(), NoMemory>
+    ensures { OnOk result (out.new.items ≡ out.old.items ++ fold_line count) }
+{
     put_numbered(out, b".. (", count)?;
     put(out, " more)\n")
 }
 
 /// Appends the number of replicas without a column, if there are any.
-pub fn put_left_out(out: &mut Vec<u8>, count: u32) -> Result<(), NoMemory> {
+///
+/// # Errors
+///
+/// `NoMemory` if an allocation fails.
+pub fn put_left_out(out: &mut Vec<u8>, count: u32) -> Result<(), NoMemory>
+    ensures { OnOk result (out.new.items ≡ out.old.items ++ left_out_line count) }
+{
     if count == 0 {
-        return Ok(());
+        Ok(())
+    } else {
+        put_not_drawn(out, count)
     }
+}
+
+fn put_not_drawn(out: &mut Vec<u8>, count: u32) -> Result<(), NoMemory>
+    ensures { OnOk result (out.new.items ≡ out.old.items ++ not_drawn_line count) }
+{
     put_count(out, count, " more replica is", " more replicas are")?;
     put(out, " not drawn\n")
 }
 
-fn put_names(out: &mut Vec<u8>, view: &View<'_>, picture: &Picture) -> Result<(), NoMemory> {
-    let mut line = blank(out)?;
+fn put_event(
+    out: &mut Vec<u8>,
+    view: &View<'_>,
+    violation: &Violation,
+    picture: &Picture,
+    row: Row,
+) -> Result<(), NoMemory>
+    ensures { OnOk result ((bytes : List ℕ)
+        × ShowsEvent view.now.names.now view.now.explanation.now violation.now row bytes
+        × (out.new.items ≡ out.old.items ++ bytes)) }
+{
+    match Event::of(*out.allocator(), view, violation, row)? {
+        Some(event) => {
+            let columns = columns_of(*out.allocator(), picture, &event)?;
+            put_line_with(out, &event.head, &columns)
+        }
+        None => Ok(()),
+    }
+}
+
+// Appends a line with this head, and the printable bytes of its columns.
+fn put_line_with(out: &mut Vec<u8>, head: &[u8], columns: &[u8]) -> Result<(), NoMemory>
+    ensures { OnOk result (out.new.items ≡ out.old.items ++ picture_line head.now columns.now) }
+{
+    put_padded(out, head)?;
+    put_printable(out, columns)?;
+    put(out, "\n")
+}
+
+// Returns the columns of the line with the names, without the spaces behind the last one.
+fn names_of(alloc: Global, view: &View<'_>, picture: &Picture) -> Result<Vec<u8>, NoMemory> {
+    let mut line = blank(alloc)?;
     let width = width_of(picture);
     let mut start = MARGIN;
     for column in &picture.columns {
@@ -56,7 +162,28 @@ fn put_names(out: &mut Vec<u8>, view: &View<'_>, picture: &Picture) -> Result<()
         }
         start = start.saturating_add(width);
     }
-    put_trimmed(out, &line)
+    behind_margin(alloc, &line)
+}
+
+// Returns the columns of the line with the event, without the spaces behind its words or its arrow.
+fn columns_of(alloc: Global, picture: &Picture, event: &Event) -> Result<Vec<u8>, NoMemory> {
+    let mut line = blank(alloc)?;
+    draw_columns(&mut line, picture, event.place);
+    if let Some(to) = picture.column_of(event.to) {
+        if let Some(from) = picture.column_of(event.from) {
+            draw_arrow(&mut line, picture, from, to, event);
+        }
+        let start = start_of(picture, to);
+        write_at(&mut line, start, &event.words, width_of(picture));
+    }
+    behind_margin(alloc, &line)
+}
+
+// Returns the bytes of the line from the first column on, without the spaces at its end.
+fn behind_margin(alloc: Global, line: &[u8]) -> Result<Vec<u8>, NoMemory> {
+    let mut columns = Vec::new(alloc);
+    columns.extend_from_slice(trimmed(behind(line, MARGIN)))?;
+    Ok(columns)
 }
 
 // Writes the name, or the end of a long one after two dots.
@@ -69,29 +196,6 @@ fn write_name(line: &mut Vec<u8>, start: usize, name: &[u8], width: usize) {
         }
         _ => write_at(line, start, name, width),
     }
-}
-
-fn put_event(
-    out: &mut Vec<u8>,
-    view: &View<'_>,
-    violation: &Violation,
-    picture: &Picture,
-    row: Row,
-) -> Result<(), NoMemory> {
-    let Some(event) = Event::of(*out.allocator(), view, violation, row)? else {
-        return Ok(());
-    };
-    let mut line = blank(out)?;
-    write_at(&mut line, 0, &event.head, MARGIN);
-    draw_columns(&mut line, picture, event.place);
-    if let Some(to) = picture.column_of(event.to) {
-        if let Some(from) = picture.column_of(event.from) {
-            draw_arrow(&mut line, picture, from, to, &event);
-        }
-        let start = start_of(picture, to);
-        write_at(&mut line, start, &event.words, width_of(picture));
-    }
-    put_trimmed(out, &line)
 }
 
 // Draws a bar in each column whose replica exists at this index of the log.
@@ -160,16 +264,10 @@ fn write_at(line: &mut Vec<u8>, start: usize, text: &[u8], room: usize) {
     }
 }
 
-fn blank(out: &Vec<u8>) -> Result<Vec<u8>, NoMemory> {
-    let mut line = Vec::new(*out.allocator());
+fn blank(alloc: Global) -> Result<Vec<u8>, NoMemory> {
+    let mut line = Vec::new(alloc);
     for _ in 0..PAGE {
         line.push(b' ')?;
     }
     Ok(line)
-}
-
-// Appends the line without trailing spaces.
-fn put_trimmed(out: &mut Vec<u8>, line: &[u8]) -> Result<(), NoMemory> {
-    out.extend_from_slice(line.trim_ascii_end())?;
-    put(out, "\n")
 }

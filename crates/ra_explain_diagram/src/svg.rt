@@ -1,12 +1,16 @@
 //! The picture as a drawing in SVG.
+ghost use Rattle.std.specs.Prelude.{◌≡◌, ◌++◌, OnOk};
+ghost use Rattle.ra_explain_diagram.specs.Drawings.{PutsDrawing, svg_opening, svg_start, title_of};
+
 use crate::drawing::{Column, Picture, Row};
 use crate::event::Event;
 use ra_explain::Violation;
-use ra_explain_text::{View, put, put_name, small};
+use ra_explain_text::{View, put, put_name, small, trimmed};
 use ra_history_lines::number::put_numbered;
 use ra_history_lines::reply::put_end;
 use ra_labels::NoMemory;
 use ra_monitor::Report;
+use std::alloc::Global;
 
 /// Dimensions in points: the position of the first column and of the first row, the distance of columns and of rows,
 /// and the distance of words from their column and from their row.
@@ -41,29 +45,82 @@ circle{fill:currentColor}\
 orient=\"auto\">\
 <path d=\"M0 0 8 4 0 8z\" fill=\"currentColor\"/></marker></defs>\n";
 
-/// Appends the check's end line, and the picture of a violation.
-pub fn put_svg(out: &mut Vec<u8>, view: &View<'_>) -> Result<(), NoMemory> {
-    let Some(violation) = &view.explanation.violation else {
-        put_start(out, &view.explanation.report, WIDTH, TOP)?;
-        return put(out, "</svg>\n");
-    };
-    let picture = Picture::of(*out.allocator(), view, violation)?;
-    put_drawing(out, view, violation, &picture)
+/// Appends a drawing with the check's end line as its title, and the picture of a violation.
+///
+/// # Errors
+///
+/// `NoMemory` if an allocation fails.
+pub fn put_svg(out: &mut Vec<u8>, view: &View<'_>) -> Result<(), NoMemory>
+    // After success, a drawing of some size is appended whose title is the end line of the check. No clause describes
+    // what it shows.
+    ensures { OnOk result (PutsDrawing view.now.explanation.now.report out.old.items out.new.items) }
+{
+    match &view.explanation.violation {
+        Some(violation) => {
+            let picture = Picture::of(*out.allocator(), view, violation)?;
+            put_drawing(out, view, violation, &picture)
+        }
+        None => put_title_alone(out, &view.explanation.report),
+    }
 }
 
 /// Appends the drawing of this picture.
+///
+/// # Errors
+///
+/// `NoMemory` if an allocation fails.
 pub fn put_drawing(
     out: &mut Vec<u8>,
     view: &View<'_>,
     violation: &Violation,
     picture: &Picture,
-) -> Result<(), NoMemory> {
-    let columns = small(picture.columns.len());
+) -> Result<(), NoMemory>
+    ensures { OnOk result (PutsDrawing view.now.explanation.now.report out.old.items out.new.items) }
+{
     let bottom = height_of(small(picture.rows.len()));
-    put_start(out, &view.explanation.report, left_of(columns), bottom)?;
-    put_columns(out, view, picture, bottom)?;
-    put_rows(out, view, violation, picture)?;
-    put(out, "</svg>\n")
+    let content = content_of(*out.allocator(), view, violation, picture, bottom)?;
+    let width = left_of(small(picture.columns.len()));
+    put_sized(out, &view.explanation.report, width, bottom, &content)
+}
+
+// Appends a drawing of this size with this content.
+fn put_sized(
+    out: &mut Vec<u8>,
+    report: &Report,
+    width: u32,
+    height: u32,
+    content: &[u8],
+) -> Result<(), NoMemory>
+    ensures { OnOk result (PutsDrawing report.now out.old.items out.new.items) }
+{
+    put_start(out, report, width, height)?;
+    Ok(out.extend_from_slice(content)?)
+}
+
+// Appends the drawing of a pass.
+fn put_title_alone(out: &mut Vec<u8>, report: &Report) -> Result<(), NoMemory>
+    ensures { OnOk result (PutsDrawing report.now out.old.items out.new.items) }
+{
+    let mut content = Vec::new(*out.allocator());
+    put_heading(&mut content, report)?;
+    put(&mut content, "</svg>\n")?;
+    put_sized(out, report, WIDTH, TOP, &content)
+}
+
+// Returns what follows the title of a drawing.
+fn content_of(
+    alloc: Global,
+    view: &View<'_>,
+    violation: &Violation,
+    picture: &Picture,
+    bottom: u32,
+) -> Result<Vec<u8>, NoMemory> {
+    let mut out = Vec::new(alloc);
+    put_heading(&mut out, &view.explanation.report)?;
+    put_columns(&mut out, view, picture, bottom)?;
+    put_rows(&mut out, view, violation, picture)?;
+    put(&mut out, "</svg>\n")?;
+    Ok(out)
 }
 
 fn left_of(column: u32) -> u32 {
@@ -74,7 +131,22 @@ fn height_of(row: u32) -> u32 {
     row.saturating_mul(HEIGHT).saturating_add(TOP)
 }
 
-fn put_start(out: &mut Vec<u8>, report: &Report, width: u32, height: u32) -> Result<(), NoMemory> {
+// Appends the beginning of a drawing of this size, with its title.
+fn put_start(out: &mut Vec<u8>, report: &Report, width: u32, height: u32) -> Result<(), NoMemory>
+    ensures { OnOk result (out.new.items ≡ out.old.items ++ svg_start width height report.now) }
+{
+    put_opening(out, width, height)?;
+    put(
+        out,
+        "\" role=\"img\" aria-labelledby=\"answer\"><title id=\"answer\">",
+    )?;
+    put_answer(out, report)?;
+    put(out, "</title>\n")
+}
+
+fn put_opening(out: &mut Vec<u8>, width: u32, height: u32) -> Result<(), NoMemory>
+    ensures { OnOk result (out.new.items ≡ out.old.items ++ svg_opening width height) }
+{
     put_numbered(
         out,
         b"<svg xmlns=\"http://www.w3.org/2000/svg\" width=\"",
@@ -82,13 +154,11 @@ fn put_start(out: &mut Vec<u8>, report: &Report, width: u32, height: u32) -> Res
     )?;
     put_numbered(out, b"\" height=\"", height)?;
     put_numbered(out, b"\" viewBox=\"0 0 ", width)?;
-    put_numbered(out, b" ", height)?;
-    put(
-        out,
-        "\" role=\"img\" aria-labelledby=\"answer\"><title id=\"answer\">",
-    )?;
-    put_answer(out, report)?;
-    put(out, "</title>\n")?;
+    put_numbered(out, b" ", height)
+}
+
+// Appends the style, and the check's end line above the picture.
+fn put_heading(out: &mut Vec<u8>, report: &Report) -> Result<(), NoMemory> {
     put(out, STYLE)?;
     put_text(out, ASIDE, ABOVE + HEIGHT)?;
     put_answer(out, report)?;
@@ -96,10 +166,17 @@ fn put_start(out: &mut Vec<u8>, report: &Report, width: u32, height: u32) -> Res
 }
 
 /// Appends the check's end line, without its line feed.
-pub fn put_answer(out: &mut Vec<u8>, report: &Report) -> Result<(), NoMemory> {
+///
+/// # Errors
+///
+/// `NoMemory` if an allocation fails.
+pub fn put_answer(out: &mut Vec<u8>, report: &Report) -> Result<(), NoMemory>
+    // After success, the end line of the check is appended, without its line feed.
+    ensures { OnOk result (out.new.items ≡ out.old.items ++ title_of report.now) }
+{
     let mut line = Vec::new(*out.allocator());
     put_end(&mut line, report.labels, report.fault)?;
-    Ok(out.extend_from_slice(line.trim_ascii_end())?)
+    Ok(out.extend_from_slice(trimmed(&line))?)
 }
 
 // Appends the start of a text at this position.

@@ -1,21 +1,10 @@
 //! A self-contained HTML document.
-ghost use Rattle.std.specs.Prelude.{◌≡◌, ◌≤◌, ◌++◌, All, OnOk, drop, length, take};
-ghost use Rattle.ra_explain_text.specs.Document.{ContainsText, IsTrimmed, escaped, escaped_byte};
+ghost use Rattle.std.specs.Prelude.{◌≡◌, ◌≤◌, ◌++◌, All, OnOk, codes, drop, length, take};
+ghost use Rattle.ra_explain_text.specs.Document.{HasDocument, IsTrimmed, document_end, document_head, document_start, document_style};
+ghost use Rattle.ra_explain_text.specs.Document.{escaped, escaped_byte};
 
-use crate::layout::{front_of, put};
+use crate::layout::{behind, front_of, put};
 use ra_labels::NoMemory;
-use std::alloc::Global;
-
-const HEAD: &str = "<!doctype html>\n<html lang=\"en\">\n<head>\n<meta charset=\"utf-8\">\n\
-<meta name=\"viewport\" content=\"width=device-width\">\n\
-<style>\
-:root{color-scheme:light dark}\
-body{font:16px/1.5 sans-serif;max-width:70em;margin:2em auto;padding:0 1em}\
-pre,td{font-family:monospace;font-size:14px}\
-pre{white-space:pre-wrap}\
-figure{margin:1em 0;overflow-x:auto}\
-td,th,caption{text-align:left;padding:0 1.5em 0 0}\
-</style>\n<title>";
 
 /// Appends a document with this title and this text, and a figure behind the text.
 ///
@@ -28,35 +17,72 @@ pub fn put_document(
     words: &[u8],
     figure: &[u8],
 ) -> Result<(), NoMemory>
-    // After success, a document is appended that contains the text, with its characters escaped as HTML requires.
-    ensures { OnOk result (ContainsText out.old.items out.new.items words.now) }
+    // After success, exactly the document is appended with this title, this text without the line feeds at its ends,
+    // and this figure. Title and text have their characters escaped as HTML requires.
+    ensures { OnOk result (HasDocument out.old.items out.new.items title.now words.now figure.now) }
 {
-    let alloc = *out.allocator();
-    let start = start_of(alloc, title)?;
-    let end = end_with(alloc, figure)?;
-    out.extend_from_slice(&start)?;
+    put_start(out, title)?;
     put_escaped(out, without_line_feeds(words))?;
-    Ok(out.extend_from_slice(&end)?)
+    put_end(out, figure)
 }
 
-// Returns the beginning of a document, up to its text.
-fn start_of(alloc: Global, title: &[u8]) -> Result<Vec<u8>, NoMemory> {
-    let mut start = Vec::new(alloc);
-    put(&mut start, HEAD)?;
-    put_escaped(&mut start, title)?;
-    put(&mut start, "</title>\n</head>\n<body>\n<h1>")?;
-    put_escaped(&mut start, title)?;
-    put(&mut start, "</h1>\n<pre>")?;
-    Ok(start)
+// Appends the beginning of a document, up to its text.
+fn put_start(out: &mut Vec<u8>, title: &[u8]) -> Result<(), NoMemory>
+    ensures { OnOk result (out.new.items ≡ out.old.items ++ document_start title.now) }
+{
+    put_head(out)?;
+    put_escaped(out, title)?;
+    put(out, "</title>\n</head>\n<body>\n<h1>")?;
+    put_escaped(out, title)?;
+    put(out, "</h1>\n<pre>")
 }
 
-// Returns the end of a document, from behind its text on.
-fn end_with(alloc: Global, figure: &[u8]) -> Result<Vec<u8>, NoMemory> {
-    let mut end = Vec::new(alloc);
-    put(&mut end, "</pre>\n")?;
-    end.extend_from_slice(figure)?;
-    put(&mut end, "</body>\n</html>\n")?;
-    Ok(end)
+fn put_head(out: &mut Vec<u8>) -> Result<(), NoMemory>
+    ensures { OnOk result (out.new.items ≡ out.old.items ++ document_head) }
+{
+    put(
+        out,
+        "<!doctype html>\n<html lang=\"en\">\n<head>\n<meta charset=\"utf-8\">\n",
+    )?;
+    put(
+        out,
+        "<meta name=\"viewport\" content=\"width=device-width\">\n",
+    )?;
+    put_style(out)?;
+    put(out, "\n<title>")
+}
+
+fn put_style(out: &mut Vec<u8>) -> Result<(), NoMemory>
+    ensures { OnOk result (out.new.items ≡ out.old.items ++ document_style) }
+{
+    put(out, "<style>:root{color-scheme:light dark}")?;
+    put(
+        out,
+        "body{font:16px/1.5 sans-serif;max-width:70em;margin:2em auto;padding:0 1em}",
+    )?;
+    put(
+        out,
+        "pre,td{font-family:monospace;font-size:14px}pre{white-space:pre-wrap}",
+    )?;
+    put(
+        out,
+        "figure{margin:1em 0;overflow-x:auto}td,th,caption{text-align:left;padding:0 1.5em 0 0}</style>",
+    )
+}
+
+// Appends the end of a document, from behind its text on.
+fn put_end(out: &mut Vec<u8>, figure: &[u8]) -> Result<(), NoMemory>
+    ensures { OnOk result (out.new.items ≡ out.old.items ++ document_end figure.now) }
+{
+    put(out, "</pre>\n")?;
+    put_figure(out, figure)
+}
+
+fn put_figure(out: &mut Vec<u8>, figure: &[u8]) -> Result<(), NoMemory>
+    ensures { OnOk result (out.new.items ≡ out.old.items ++ (figure.now ++ codes "</body>\n</html>\n")) }
+{
+    out.extend_from_slice(figure)?;
+    put(out, "</body>\n</html>\n")
 }
 
 // Returns the text without the line feeds at its ends. A space there may belong to a quoted line.
@@ -67,13 +93,6 @@ fn without_line_feeds(words: &[u8]) -> &[u8]
     let rest = behind(words, front);
     let end = end_before_feeds(rest);
     front_of(rest, end)
-}
-
-// Returns the bytes behind this number of them.
-fn behind(words: &[u8], count: usize) -> &[u8]
-    ensures { result.now ≡ drop count words.now }
-{
-    words.get(count..).unwrap_or(b"")
 }
 
 // Returns the number of line feeds at the beginning.

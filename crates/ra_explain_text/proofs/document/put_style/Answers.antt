@@ -1,0 +1,7 @@
+use Rattle.ra_explain_text.proofs.Chains.{put_four}
+use Rattle.ra_explain_text.proofs.document.put_style.Goals as goal
+
+pub returns : goal.returns
+returns c =
+    put_four c.put-4.result c.args.out.now.items c.put.new.out.items c.put-2.new.out.items c.put-3.new.out.items
+    c.put-4.new.out.items _ _ _ _ c.in_ok-put.ensures c.in_ok-put-2.ensures c.in_ok-put-3.ensures c.put-4.ensures
