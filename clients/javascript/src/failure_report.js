@@ -99,7 +99,7 @@ export class FailureReport {
     const { right: expected, would_be_right: changes, tried } = explanation;
     const rows = changes.slice(0, SHOWN_CHANGES).map((it) => `explained if ${this.#describeChange(it)}`);
     if (expected !== null) rows.unshift(`expected: ${this.#describeLine(expected)}`);
-    if (tried > 0 && changes.length === 0) rows.push(`no single change of deliveries explains it (${tried} tried)`);
+    if (tried > 0 && changes.length === 0) rows.push(noneHelps(tried));
     return rows.map((row) => `\n${row}`).join("");
   }
 
@@ -165,4 +165,10 @@ export function saveHistory(text, path) {
   // A temporary file is a new one.
   writeFileSync(saved, text, { flag: path === undefined ? "wx" : "w" });
   return saved;
+}
+
+// That none of the changes that `explain` tried explains the operation, in its words.
+function noneHelps(tried) {
+  if (tried === 1) return "the one change that was tried does not explain it";
+  return `none of the ${tried} changes that were tried explains it`;
 }

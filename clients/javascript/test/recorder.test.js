@@ -394,6 +394,20 @@ test("a missing delivery is suggested", needsExplanations, async () => {
   await recorder.stop();
 });
 
+test("changes that do not help are counted", needsExplanations, async () => {
+  const cases = [
+    [["Bob", "Ann"], "the one change that was tried does not explain it"],
+    [["Bob", "Ann", "Cid"], "none of the 2 changes that were tried explains it"],
+  ];
+  for (const [replicas, row] of cases) {
+    const recorder = new Recorder("counter", replicas, { window: 1 });
+    for (const replica of replicas.slice(1)) await recorder.increment(replica, { message: replica });
+    const { message } = await recorder.read("Bob", 5).catch((fault) => fault);
+    assert.ok(message.includes(`\n${row}\n`), message);
+    await recorder.stop();
+  }
+});
+
 test("a removal that names too few identifiers is explained", async () => {
   const recorder = new Recorder("orset", ["a"], { window: 1 });
   await recorder.add("a", "x", { identifier: 1 });

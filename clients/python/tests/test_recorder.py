@@ -333,6 +333,18 @@ class Failures(unittest.TestCase):
         self.assertIn(explained, str(caught.exception))
         recorder.stop()
 
+    @unittest.skipUnless(program.EXPLAIN_PROGRAM.is_file(), "./ra_monitor explain is not built")
+    def test_changes_that_do_not_help_are_counted(self) -> None:
+        for replicas, row in ((["Bob", "Ann"], "the one change that was tried does not explain it"),
+                              (["Bob", "Ann", "Cid"], "none of the 2 changes that were tried explains it")):
+            recorder = Recorder("counter", replicas, window=1)
+            for replica in replicas[1:]:
+                recorder.increment(replica, message=replica)
+            with self.assertRaises(NotLinearizable) as caught:
+                recorder.read("Bob", 5)
+            self.assertIn(f"\n{row}\n", str(caught.exception))
+            recorder.stop()
+
     def test_a_delivery_before_its_cause_is_refused(self) -> None:
         recorder = Recorder("counter", ["a", "b", "c"])
         recorder.increment("a", message=1)

@@ -94,7 +94,7 @@ class FailureReport:
             rows.append(f"expected: {self._translator.describe(expected, self._describe_label)}")
         rows += [f"explained if {self._describe_change(it)}" for it in changes[:SHOWN_CHANGES]]
         if tried and not changes:
-            rows.append(f"no single change of deliveries explains it ({tried} tried)")
+            rows.append(_none_helps(tried))
         return "".join(f"\n{row}" for row in rows)
 
     def _describe_change(self, change: Dict[str, int]) -> str:
@@ -165,3 +165,10 @@ def save_history(text: str, path: Optional[str]) -> str:
     with open(path, "w", encoding="ascii", newline="\n") as file:
         file.write(text)
     return path
+
+
+def _none_helps(tried: int) -> str:
+    """That none of the changes that `explain` tried explains the operation, in its words."""
+    if tried == 1:
+        return "the one change that was tried does not explain it"
+    return f"none of the {tried} changes that were tried explains it"
