@@ -63,7 +63,7 @@ FIRST_TRIES = {
     "RAH 1 counter\nReplicas a b\n": SMALL,
     "RAH 1 counter\nreplicas Ann\n": SMALL,
     f"{HEADER}a INC\n": SMALL,
-    "RAH 1 list\n": KINDS,
+    "RAH 1 set\n": KINDS,
     "RAH 1 or-set\n": KINDS,
     "RAH 3 counter\n": NEWER,
     "RAH 10 rga\n": NEWER,

@@ -6,13 +6,21 @@ program against it.
 """
 import json
 import re
+from itertools import permutations
 from typing import Callable, NamedTuple, Optional
 
-from specification import START, add_one, are_shown, are_the_elements, are_the_identifiers, are_the_paired_elements
-from specification import hide, insert_after, is_the_state, put_in, put_pair_in, take_one, take_out, take_pairs_out
-from specification import write
+from list_order import elements_of, list_order_of
+from specification import START, add_one, are_all_shown, are_inserted, are_shown, are_some_shown, are_the_elements
+from specification import are_the_identifiers, are_the_paired_elements, hide, insert_after, insert_between, is_inserted
+from specification import is_the_state, mark_removed, put_in, put_pair_in, take_one, take_out, take_pairs_out, write
 
+# The kinds that the random histories and bytes draw from, and all that line 1 may name.
 KINDS = ("counter", "register", "lwwset", "orset", "rga")
+ALL_KINDS = (*KINDS, "list")
+# Kinds whose labels are tried in the order in which they were accepted. A violation of theirs is final.
+IN_EXECUTION_ORDER = ("counter", "orset", "list")
+# Of at most this number of a list's elements all orders are tried.
+MOST_ENUMERATED = 5
 LONGEST_LINE = 1_048_576
 MOST_COMMANDS = 1_048_576
 # How many names line 2 has at most, by the form of line 1. With those that join later there are as many as RAH 2 names.
@@ -34,7 +42,7 @@ class Does(NamedTuple):
 
 
 class Operation(NamedTuple):
-    """What an operation changes and asks. An OR-Set's removal does both."""
+    """What an operation changes and asks. An OR-Set's removal does both, as do a list's insertion and removal."""
 
     kind: str
     update: Optional[Does] = None
@@ -62,7 +70,7 @@ def rises(numbers):
 
 
 def rank_of(label, labels):
-    if label.operation.kind in ("counter", "orset"):
+    if label.operation.kind in IN_EXECUTION_ORDER:
         return LOWEST_RANK
     return label.stamp or max((labels[it].stamp or LOWEST_RANK for it in label.sees), default=LOWEST_RANK)
 
@@ -72,13 +80,19 @@ def named_labels(labels):
     return sorted(labels, key=lambda it: (rank_of(it, labels), it.number))
 
 
-def state_after(kind, labels):
-    """The state after the updates of these labels, in this order, or None where one is not admitted."""
-    state = START[kind]
-    for label in labels:
-        update = label.operation.update
-        if update and state is not None:
+def first_state(kind, order):
+    return START[kind] if order is None else START[kind]._replace(order=order)
+
+
+def state_after(kind, labels, order=None):
+    """The state after the updates of these labels, in this order, or None where one is not admitted. A list's
+    specification is the one at this order of its elements, or the free one."""
+    state = first_state(kind, order)
+    for update in (it.operation.update for it in labels):
+        if update:
             state = update.what(state, *update.given)
+        if state is None:
+            return None
     return state
 
 
@@ -87,25 +101,43 @@ def must_precede(early, late):
     return early.number in late.sees or (early.replica == late.replica and early.number < late.number)
 
 
-def is_answered(kind, label, sequence):
+def is_answered(kind, label, sequence, order=None):
     """Is its query answered yes after the updates that it sees, in the sequence's order?"""
     query = label.operation.query
     if not query:
         return True
-    state = state_after(kind, [it for it in sequence if it.number in label.sees])
+    state = state_after(kind, [it for it in sequence if it.number in label.sees], order)
     return state is not None and query.what(state, *query.given)
 
 
+def failure_of(kind, sequence, order=None):
+    """The first condition on updates and queries that the sequence fails, or None where it fails none."""
+    if state_after(kind, sequence, order) is None:
+        return "update"
+    if not all(is_answered(kind, it, sequence, order) for it in sequence):
+        return "query"
+    return None
+
+
+def is_explained_by_an_order(sequence):
+    """Is there an order of all elements of a list at which its sequence meets these conditions?"""
+    elements = elements_of(sequence)
+    if len(elements) > MOST_ENUMERATED:
+        return list_order_of(sequence) is not None
+    return any(failure_of("list", sequence, order) is None for order in permutations(elements))
+
+
 def cause_of(kind, labels):
-    """The first condition that the named sequence fails, or None where it fails none."""
+    """The first condition that the named sequence fails, or None where it fails none.
+
+    A list's is execution order, which extends visibility. So its cause "order" says instead that the free specification
+    is met, and at no order of the elements the specification with this order.
+    """
     sequence = named_labels(labels)
     if any(must_precede(late, early) for at, late in enumerate(sequence) for early in sequence[:at]):
         return "order"
-    if state_after(kind, sequence) is None:
-        return "update"
-    if not all(is_answered(kind, it, sequence) for it in sequence):
-        return "query"
-    return None
+    failure = failure_of(kind, sequence)
+    return "order" if kind == "list" and not failure and not is_explained_by_an_order(sequence) else failure
 
 
 # Evidence: any sequence of parts, held against the three conditions alone. Nothing here knows a named order.
@@ -129,15 +161,18 @@ def extends_visibility(labels, parts):
     )
 
 
-def linearizes(kind, labels, parts):
-    """Is it each part once, in an order that extends visibility, admits each update and answers each query?"""
+def linearizes(kind, labels, parts, order=None):
+    """Is it each part once, in an order that extends visibility, admits each update and answers each query? Of a list
+    the order of its elements is part of the evidence."""
     if sorted(parts) != sorted(it for label in labels for it in parts_of(label)):
+        return False
+    if kind == "list" and sorted(order) != sorted(elements_of(labels)):
         return False
     changed = [labels[number] for number, half in parts if half != "query"]
     return (
         extends_visibility(labels, parts)
-        and state_after(kind, changed) is not None
-        and all(is_answered(kind, it, changed) for it in labels)
+        and state_after(kind, changed, order) is not None
+        and all(is_answered(kind, it, changed, order) for it in labels)
     )
 
 
@@ -304,13 +339,16 @@ def read_of(kind, piece):
     if kind == "register":
         return Operation(kind, query=Does(is_the_state, (piece if piece == "none" else number_of(piece),)))
     elements = list_of(piece)
-    question = {"lwwset": are_the_elements, "orset": are_the_paired_elements, "rga": are_shown}[kind]
-    return Operation(kind, query=Does(question, (elements,)), rising=() if kind == "rga" else elements)
+    sets = {"lwwset": are_the_elements, "orset": are_the_paired_elements}
+    question = {**sets, "rga": are_shown, "list": are_all_shown}[kind]
+    return Operation(kind, query=Does(question, (elements,)), rising=elements if kind in sets else ())
 
 
 def removal_of(kind, element):
     if kind == "rga":
         return Operation("rga", Does(hide, (element,)))
+    if kind == "list":
+        return Operation("list", Does(mark_removed, (element,)), Does(is_inserted, (element,)))
     return Operation("lwwset", Does(take_out, (element,)), carries_stamp=True)
 
 
@@ -324,9 +362,21 @@ def tagged_addition_of(element, identifier):
     return Operation("orset", Does(put_pair_in, (element, identifier)), identifier=identifier)
 
 
+def list_operation_of(word, given):
+    """What a body that only a list's history has spells."""
+    if word == "part":
+        expect(len(given) == 1)
+        return Operation("list", query=Does(are_some_shown, (list_of(given[0]),)))
+    expect(len(given) == 3)
+    left, element, right = map(number_of, given)
+    return Operation("list", Does(insert_between, (left, element, right)), Does(are_inserted, (left, right)))
+
+
 def operation_of(kind, fields):
     """The operation that a line's body spells in a history of this kind."""
     word, *given = fields
+    if kind == "list" and word in ("insert", "part"):
+        return list_operation_of(word, given)
     if word in ("inc", "dec"):
         expect(not given)
         return Operation("counter", Does(add_one if word == "inc" else take_one, ()))
@@ -367,7 +417,7 @@ def command_of(form, kind, line):
 
 def form_and_kind_of(line):
     words = line.split(" ")
-    expect(len(words) == 3 and words[0] == "RAH" and words[1] in MOST_NAMES and words[2] in KINDS)
+    expect(len(words) == 3 and words[0] == "RAH" and words[1] in MOST_NAMES and words[2] in ALL_KINDS)
     return words[1:]
 
 
@@ -417,7 +467,7 @@ def report_of(monitor):
     says["verdict"] = "no" if monitor.fault else "yes"
     if monitor.fault:
         _, label, cause = monitor.fault.split()
-        says.update(cause=cause, final=monitor.kind in ("counter", "orset"), label=int(label))
+        says.update(cause=cause, final=monitor.kind in IN_EXECUTION_ORDER, label=int(label))
     return json.dumps(says, sort_keys=True, separators=(",", ":"))
 
 

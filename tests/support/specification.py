@@ -2,10 +2,31 @@
 
 A step takes a state and what its update has, and gives the state after it, or None where the update is not admitted. A
 question takes a state and what its query has, and gives a yes or a no. States: a number; a value or "none"; a set of
-elements; a set of pairs; a tuple of elements, each with whether a read shows it.
+elements; a set of pairs; a tuple of elements, each with whether a read shows it; a `ListState`.
 """
+from typing import NamedTuple, Optional
+
+
+class ListState(NamedTuple):
+    """What was ever inserted into a list and what was ever removed, and the order of all elements that is asked about.
+
+    The order is the parameter of the specification and no step changes it. Without one (None) this is the free
+    specification, which asks of elements whether they exist and nothing of where they are.
+    """
+
+    order: Optional[tuple] = None
+    inserted: frozenset = frozenset()
+    removed: frozenset = frozenset()
+
+    def stands_before(self, early, late):
+        return self.order is None or self.order.index(early) < self.order.index(late)
+
+    def shown(self):
+        return self.inserted - self.removed
+
 
 START = {"counter": 0, "register": "none", "lwwset": frozenset(), "orset": frozenset(), "rga": ((0, False),)}
+START["list"] = ListState()
 
 
 def add_one(state):
@@ -68,3 +89,47 @@ def are_the_paired_elements(state, elements):
 
 def are_shown(state, elements):
     return [it for it, is_shown in state if is_shown] == list(elements)
+
+
+# The steps and the questions of a list. 0 is no element: as a neighbour it says that there is none, or that it is not
+# reported.
+
+
+def insert_between(state, left, element, right):
+    if element == 0 or element in state.inserted:
+        return None
+    if left and not (left in state.inserted and state.stands_before(left, element)):
+        return None
+    if right and not (right in state.inserted and state.stands_before(element, right)):
+        return None
+    return state._replace(inserted=state.inserted | {element})
+
+
+def mark_removed(state, element):
+    """A removed element stays inserted: it keeps its place, and it may be removed again."""
+    return state._replace(removed=state.removed | {element}) if element in state.inserted else None
+
+
+def are_inserted(state, left, right):
+    return all(it == 0 or it in state.inserted for it in (left, right))
+
+
+def is_inserted(state, element):
+    return element in state.inserted
+
+
+def are_all_shown(state, elements):
+    """The shown elements, each once, in the order."""
+    if state.order is None:
+        return sorted(elements) == sorted(state.shown())
+    return list(elements) == [it for it in state.order if it in state.shown()]
+
+
+def are_some_shown(state, elements):
+    """Shown elements, each once, that rise in the order. There may be others between them."""
+    is_each_once = len(set(elements)) == len(elements)
+    return (
+        is_each_once
+        and state.shown().issuperset(elements)
+        and all(state.stands_before(*it) for it in zip(elements, elements[1:]))
+    )
