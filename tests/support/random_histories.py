@@ -1,4 +1,4 @@
-"""Histories of all kinds, made by a seed: texts whose replicas are honest, but for a few lies and a few odd lines.
+"""Histories of all kinds but list, made by a seed: texts whose replicas are honest, but for a few lies and a few odd lines.
 
 Updates cross on their way, come late, twice, or before their cause; clocks tie, lag and are taken; answers are wrong; a
 line is broken, or the text ends inside one. One of three is a text RAH 2, whose replicas join, or are many. What an
