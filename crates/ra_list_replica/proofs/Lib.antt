@@ -1,0 +1,5 @@
+pub mod Counts
+pub mod Lists
+pub mod Shows
+pub mod StoredNumbers
+pub mod Turns

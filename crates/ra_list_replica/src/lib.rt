@@ -1,0 +1,20 @@
+//! The elements of a list by number, and one replica's view of them.
+//!
+//! Contract for the crates above: `ElementNumbers` numbers the elements of a list in the order of their insertion. A
+//! `ReplicaView` knows which of them a replica has and which of those were removed. `read` compares a list that a
+//! replica returned with the elements that the view shows: it finds the elements' numbers exactly if the list has each
+//! shown element once and nothing else.
+#![tactic(auto)]
+
+mod element_numbers;
+mod finding;
+mod listing;
+mod mark;
+mod replica_view;
+#[cfg(test)]
+mod tests;
+
+pub use element_numbers::ElementNumbers;
+pub use finding::Listed;
+pub use mark::Mark;
+pub use replica_view::ReplicaView;
