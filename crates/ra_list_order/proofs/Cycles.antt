@@ -20,7 +20,7 @@ irreflexive (x ∷ xs) a new before = elim before [
   | inr further ↦ irreflexive xs a new.1 further
 ]
 
-transitive : (xs : List ℕ) (a b c : ℕ) → AreNew xs → IsBefore xs a b → IsBefore xs b c → IsBefore xs a c
+pub transitive : (xs : List ℕ) (a b c : ℕ) → AreNew xs → IsBefore xs a b → IsBefore xs b c → IsBefore xs a c
 transitive [] a b c new first second = first
 transitive (x ∷ xs) a b c new first second = elim first [
   | inl here ↦ elim second [

@@ -11,6 +11,7 @@ pub mod Listings
 pub mod Members
 pub mod Moves
 pub mod Puts
+pub mod ReadLists
 pub mod Spans
 pub mod Sweeps
 pub mod Ways

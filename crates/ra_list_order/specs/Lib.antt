@@ -4,4 +4,5 @@ pub mod Edges
 pub mod ListOrder
 pub mod Listing
 pub mod Marks
+pub mod Reads
 pub mod Sweep

@@ -1,8 +1,9 @@
 //! The theorems about orders and cycles, each the clause of a function with an empty body.
-ghost use Rattle.std.specs.Prelude.{◌≡◌, ℕ, List, Some, None, Contains};
+ghost use Rattle.std.specs.Prelude.{◌≡◌, ◌↔◌, ℕ, List, Some, None, Contains};
 ghost use Rattle.ra_list_order.specs.declared.edge.Edge.{Edge};
 ghost use Rattle.ra_list_order.specs.Edges.{EachOnce, Extends, IsCycle};
 ghost use Rattle.ra_list_order.specs.Listing.{list_order_of};
+ghost use Rattle.ra_list_order.specs.Reads.{edges_of_read, in_order};
 
 /// Theorem: no order that has each element once extends edges among which there is a cycle.
 pub fn no_order_extends_cycle()
@@ -19,4 +20,12 @@ pub fn listed_order_cases()
     ensures none { (elements : List ℕ) (edges cycle : List Edge) → IsCycle edges cycle
         → ((edge : Edge) → Contains cycle edge → Contains elements edge.before)
         → list_order_of elements edges ≡ None }
+{}
+
+/// Theorem: an order extends the edges of a list that a replica returned exactly if the list has its elements in that
+/// order.
+pub fn order_extends_read_iff()
+    ensures { (order list : List ℕ) (label : ℕ) → EachOnce order → EachOnce list
+        → ((x : ℕ) → Contains list x → Contains order x)
+        → Extends order (edges_of_read label list) ↔ (list ≡ in_order order list) }
 {}
