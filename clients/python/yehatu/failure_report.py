@@ -27,25 +27,31 @@ class FailureReport:
     """The commands of a failed history, described in the user's names.
 
     `message_keys` has the key of each label's message, and `notes` the lines that are printed before the command with
-    a given number.
+    a given number. `places`, if any, has the place of each command in a log, which descriptions then begin with.
     """
 
     def __init__(
-        self, translator: Translator, text: str, message_keys: Dict[int, Hashable], notes: Dict[int, List[str]]
+        self, translator: Translator, text: str, message_keys: Dict[int, Hashable], notes: Dict[int, List[str]],
+        places: Sequence[object] = (),
     ) -> None:
         self._translator = translator
         self._message_keys = message_keys
         self._notes = notes
+        self._places = places
         self.commands = text.splitlines()[HEADER_LINES:]
-        self._line_of = dict(enumerate(filter(is_operation, self.commands)))
+        self._command_of = [number for number, line in enumerate(self.commands) if is_operation(line)]
 
     def describe(self, command: int) -> str:
         """Returns a description of the command with this number."""
-        return self._translator.describe(self.commands[command], self._describe_label)
+        description = self._translator.describe(self.commands[command], self._describe_label)
+        return f"{self._places[command]}: {description}" if self._places else description
 
     def _describe_label(self, label: int) -> str:
-        message = f"message {self._message_keys[label]!r}, " if label in self._message_keys else ""
-        return f"{message}label {label} ({self._translator.describe(self._line_of[label], self._describe_label)})"
+        command = self._command_of[label]
+        key = f"message {self._message_keys[label]!r}" if label in self._message_keys else ""
+        if self._places:
+            return f"{key or 'an update'} ({self.describe(command)})"
+        return f"{key}{', ' if key else ''}label {label} ({self.describe(command)})"
 
     def format_commands(self, replies: Sequence[str] = (), first: int = 0, most: int = 0, last: str = "") -> str:
         """Returns a table of the commands from number `first` on: each with its reply, if any, and its description.

@@ -1,5 +1,5 @@
 """The numbers and names that represent the user's values in the text format."""
-from typing import Any, Dict, Hashable, Iterator, List, Optional, Sequence, Set
+from typing import Any, Dict, Hashable, Iterable, Iterator, List, Optional, Sequence, Set
 
 from .errors import NotRepresentable
 
@@ -72,6 +72,22 @@ class Clocks:
     def clock_of(self, number: int) -> int:
         """Returns the clock with this number."""
         return number + (self._offset or 0)
+
+
+class RankedClocks:
+    """Numbers for clocks that are all known: their ranks, so that clocks of any size keep their order."""
+
+    def __init__(self, clocks: Iterable[int]) -> None:
+        self._clocks = sorted(set(clocks))
+        self._ranks = {clock: rank for rank, clock in enumerate(self._clocks, 1)}
+
+    def number_of(self, clock: Any) -> int:
+        """Returns the number of this clock, which is one of those that are known."""
+        return self._ranks[clock]
+
+    def clock_of(self, number: int) -> int:
+        """Returns the clock with this number."""
+        return self._clocks[number - 1]
 
 
 class Replicas:

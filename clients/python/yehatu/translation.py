@@ -1,8 +1,8 @@
 """Translates between operations in the user's names and lines of the text format."""
-from typing import Any, Callable, Collection, Dict, Hashable, Iterable, List, Sequence
+from typing import Any, Callable, Collection, Dict, Hashable, Iterable, List, Optional, Sequence
 
 from .errors import NotRepresentable
-from .numbers import Clocks, Numbering, Replicas
+from .numbers import Clocks, Numbering, RankedClocks, Replicas
 from .operations import Stamp, operations_of
 
 # Formats the value, the anchor, the stamp and the identifiers of an operation of the replica with this number.
@@ -16,16 +16,18 @@ MIN_COUNT, MAX_COUNT = -(1 << 31), (1 << 31) - 1
 class Translator:
     """The lines of one history, with the user's values that their numbers represent.
 
-    `nothing` is the result of a register's read before the first write.
+    `nothing` is the result of a register's read before the first write. `clocks` gives the clocks other numbers.
     """
 
-    def __init__(self, kind: str, replicas: Sequence[Hashable], nothing: Any = None) -> None:
+    def __init__(
+        self, kind: str, replicas: Sequence[Hashable], nothing: Any = None, clocks: Optional[RankedClocks] = None
+    ) -> None:
         operations = operations_of(kind)
         self.kind = kind
         self.replicas = Replicas(replicas)
         self.identifiers = Numbering("an identifier")
         self._values = Numbering("a value" if kind == "register" else "an element")
-        self._clocks = Clocks()
+        self._clocks = clocks or Clocks()
         self._nothing = nothing
         self.number_of = self._values.number_of
         formatters: Dict[str, Formatter] = {
