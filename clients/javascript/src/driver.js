@@ -10,7 +10,7 @@ import { COPYING } from "./steps.js";
 import { expectedResult } from "./translation.js";
 
 /** A substitute for the monitor that collects a recorder's lines, so that one run of the program checks them. */
-class Transcript {
+export class Transcript {
   unexpected = null;
   lines = [];
 

@@ -25,25 +25,29 @@ const NOT_CAUSAL = "refused not-causal ";
 
 /**
  * The commands of a failed history, described in the user's names. `messageKeys` has the key of each label's message,
- * and `notes` the lines that are printed before the command with a given number.
+ * and `notes` the lines that are printed before the command with a given number. `places`, if any, has the place of
+ * each command in a log, which descriptions then begin with.
  */
 export class FailureReport {
   #translator;
   #messageKeys;
   #notes;
-  #lineOf;
+  #places;
+  #commandOf;
 
-  constructor(translator, text, messageKeys, notes) {
+  constructor(translator, text, messageKeys, notes, places = []) {
     this.#translator = translator;
     this.#messageKeys = messageKeys;
     this.#notes = notes;
+    this.#places = places;
     this.commands = text.split("\n").slice(HEADER_LINES, -1);
-    this.#lineOf = this.commands.filter(isOperation);
+    this.#commandOf = [...this.commands.keys()].filter((it) => isOperation(this.commands[it]));
   }
 
   /** Returns a description of the command with this number. */
   describe(command) {
-    return this.#describeLine(this.commands[command]);
+    const description = this.#describeLine(this.commands[command]);
+    return this.#places.length > 0 ? `${this.#places[command]}: ${description}` : description;
   }
 
   #describeLine(line) {
@@ -51,8 +55,10 @@ export class FailureReport {
   }
 
   #describeLabel(label) {
-    const message = this.#messageKeys.has(label) ? `message ${inspect(this.#messageKeys.get(label))}, ` : "";
-    return `${message}label ${label} (${this.#describeLine(this.#lineOf[label])})`;
+    const key = this.#messageKeys.has(label) ? `message ${inspect(this.#messageKeys.get(label))}` : "";
+    const description = this.describe(this.#commandOf[label]);
+    if (this.#places.length > 0) return `${key || "an update"} (${description})`;
+    return `${key}${key && ", "}label ${label} (${description})`;
   }
 
   /**

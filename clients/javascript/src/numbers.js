@@ -6,7 +6,9 @@ import { NotRepresentable } from "./errors.js";
 const MAX_NUMBER = 4_294_967_295;
 // The number of a first clock that is too large. It leaves room for clocks that are slightly earlier.
 const NUMBER_OF_LARGE_CLOCK = 1 << 28;
-const MAX_REPLICAS = 64;
+export const MAX_REPLICAS = 64;
+// The largest number of commands of a history.
+export const MAX_COMMANDS = 1_048_576;
 const NAME = /^[a-z][a-z0-9]{0,15}$/;
 const RESERVED_NAMES = ["verdict", "join"];
 
@@ -98,6 +100,28 @@ export class Clocks {
   /** Returns the clock with this number. */
   clockOf(number) {
     return BigInt(number) + (this.#offset ?? 0n);
+  }
+}
+
+/** Numbers for clocks that are all known: their ranks, so that clocks of any size keep their order. */
+export class RankedClocks {
+  #clocks;
+  #ranks;
+
+  /** The clocks are bigints. */
+  constructor(clocks) {
+    this.#clocks = [...new Set(clocks)].sort((one, other) => (one < other ? -1 : 1));
+    this.#ranks = new Map(this.#clocks.map((clock, index) => [clock, index + 1]));
+  }
+
+  /** Returns the number of this clock, which is one of those that are known. */
+  numberOf(clock) {
+    return this.#ranks.get(clock);
+  }
+
+  /** Returns the clock with this number. */
+  clockOf(number) {
+    return this.#clocks[number - 1];
   }
 }
 

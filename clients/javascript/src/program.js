@@ -1,10 +1,12 @@
 // The search for the program, and its runs on whole histories.
 import { spawn, spawnSync } from "node:child_process";
-import { accessSync, constants, realpathSync, statSync } from "node:fs";
+import { accessSync, constants, existsSync, realpathSync, statSync } from "node:fs";
 import { delimiter, join } from "node:path";
 import { fileURLToPath } from "node:url";
 import { MonitorExited } from "./errors.js";
 
+// The program inside an installed package, as tools/package puts it there.
+const INSTALLED = fileURLToPath(new URL("../installed/bin/ra_monitor", import.meta.url));
 const REPOSITORY = fileURLToPath(new URL("../../..", import.meta.url));
 const OWN_PROGRAM = join(REPOSITORY, "ra_monitor");
 const CHECK_PROGRAM = join(REPOSITORY, "crates", "ra_check_cli", "out", "ra_check_cli");
@@ -16,14 +18,32 @@ export const COMPLETE = [0, 1, 3];
 // The standard error of a run that could not parse its input.
 const SYNTAX_FAULT = /^line \d+: (syntax|truncated|too long|full)\n?$/;
 
-/** Returns the path of the given program, else of RA_MONITOR, else of the repository's own `ra_monitor`. */
+/**
+ * Returns the path of the given program, else of RA_MONITOR, else of the one that is found without being named. That is
+ * the one inside this package, else in a clone the repository's own, else `ra_monitor` on the path.
+ */
 export function find(program) {
-  const chosen = program || process.env.RA_MONITOR || OWN_PROGRAM;
-  const paths = chosen.includes("/") ? [chosen] : process.env.PATH.split(delimiter).map((it) => join(it, chosen));
-  const found = paths.find(isProgram);
+  const chosen = program || process.env.RA_MONITOR || unnamed();
+  const found = which(chosen);
   if (found !== undefined) return found;
   throw new MonitorExited(
     `${chosen} is not a program: pass the path of ra_monitor as \`program\`, or set RA_MONITOR to it`,
+  );
+}
+
+function which(name) {
+  const paths = name.includes("/") ? [name] : (process.env.PATH ?? "").split(delimiter).map((it) => join(it, name));
+  return paths.find(isProgram);
+}
+
+function unnamed() {
+  // In a clone this module is below the tool that builds the program.
+  const own = isFile(join(REPOSITORY, "tools", "build")) ? [OWN_PROGRAM] : [];
+  const found = [INSTALLED, ...own].find(isFile) ?? which("ra_monitor");
+  if (found !== undefined) return found;
+  throw new MonitorExited(
+    "there is no program ra_monitor: install a package of yehatu that contains it (tools/package of the repository " +
+      "makes one), or set RA_MONITOR to its path",
   );
 }
 
@@ -115,6 +135,13 @@ export function explainViolation(program, text) {
   }
 }
 
+/** Returns the page of `explain --html` about a history. Throws `MonitorExited` if the program cannot explain. */
+export function explainPage(program, text) {
+  const ran = runExplain(program, text, "--html");
+  if (COMPLETE.includes(ran.status)) return ran.stdout;
+  throw new MonitorExited(`${program} cannot explain, so there is no page: install one that has \`explain\``);
+}
+
 /**
  * Runs `ra_monitor explain`, without output if the program cannot explain. The repository's own program is not built
  * for this, since that takes minutes.
@@ -145,8 +172,10 @@ export function describeExit(program, status, stderr, text) {
 function isProgram(path) {
   try {
     accessSync(path, constants.X_OK);
-    return statSync(path).isFile();
+    return isFile(path);
   } catch {
     return false;
   }
 }
+
+const isFile = (path) => existsSync(path) && statSync(path).isFile();

@@ -8,7 +8,7 @@ import { Translator } from "./translation.js";
 import * as unclosed from "./unclosed.js";
 
 // The largest amount of one `increment` with `by`: the text counts by one.
-const MAX_AMOUNT = 256;
+export const MAX_AMOUNT = 256;
 const COUNTING = { increment: "inc", decrement: "dec" };
 const NONE = {};
 const DONE = Promise.resolve(undefined);

@@ -71,13 +71,13 @@ export class Reports {
     if (this.failure !== null) throw this.failure;
   }
 
-  /** Returns a report on this text of this history. */
-  failureReport(text) {
+  /** Returns a report on this text of this history. `places`, if any, has the place of each command in a log. */
+  failureReport(text, places = []) {
     const keys = new Map();
     for (const [key, { label, count }] of this.#messages.entries()) {
       for (let at = 0; at < count; at += 1) keys.set(label + at, key);
     }
-    return new FailureReport(this.#translator, text, keys, this.#notes);
+    return new FailureReport(this.#translator, text, keys, this.#notes, places);
   }
 
   /** Adds a line that a failure's message shows before the next report. */

@@ -4,17 +4,17 @@ import { NotRepresentable } from "./errors.js";
 import { Clocks, Numbering, Replicas } from "./numbers.js";
 import { operationsOf } from "./operations.js";
 
-const MIN_COUNT = -2_147_483_648;
-const MAX_COUNT = 2_147_483_647;
+export const MIN_COUNT = -2_147_483_648;
+export const MAX_COUNT = 2_147_483_647;
 
 /**
  * The lines of one history, with the user's values that their numbers represent. `nothing` is the result of a
- * register's read before the first write.
+ * register's read before the first write. `clocks` gives the clocks other numbers.
  */
 export class Translator {
   identifiers = new Numbering();
   #values = new Numbering();
-  #clocks = new Clocks();
+  #clocks;
   #nothing;
   #operations;
   #formatters = {
@@ -26,7 +26,8 @@ export class Translator {
     insertAfter: (replica, operation) => this.#formatInsertion(replica, operation),
   };
 
-  constructor(kind, replicas, nothing = null) {
+  constructor(kind, replicas, nothing = null, clocks = new Clocks()) {
+    this.#clocks = clocks;
     this.#operations = operationsOf(kind);
     this.kind = kind;
     this.replicas = new Replicas(replicas);

@@ -9,7 +9,7 @@ from . import demo
 from . import program as programs
 from .errors import MonitorExited, ReportFailed
 from .log_check import check_logs, describe
-from .log_history import Judged, Verdict
+from .log_history import Verdict
 from .log_lines import CannotJudge, LogFault
 from .operations import OPERATIONS
 from .random_runs import replay
@@ -70,23 +70,25 @@ def _check(chosen: argparse.Namespace) -> int:
         if chosen.history is not None:
             Path(chosen.history).write_text(judged.history, encoding="ascii")
         if judged.verdict is Verdict.VIOLATION and Verdict.VIOLATION not in verdicts and chosen.page is not None:
-            _write_page(chosen.page, judged)
+            _write_page(chosen.page, judged.history.encode())
         verdicts.add(judged.verdict)
     if Verdict.VIOLATION in verdicts:
         return VIOLATION
     return PASS if verdicts == {Verdict.PASS} else NO_VERDICT
 
 
-def _write_page(path: str, judged: Judged) -> None:
-    page = programs.explain_page(programs.find(), judged.history.encode())
+def _write_page(path: str, history: bytes) -> None:
+    page = programs.explain_page(programs.find(), history)
     if not page:
         raise MonitorExited("the program cannot explain, so there is no page: install one that has `explain`")
     Path(path).write_bytes(page)
-    print(f"  the page is {path}")
+    print(f"the page about it: {path}")
 
 
 def _demo(chosen: argparse.Namespace) -> int:
-    print(demo.run(chosen.page))
+    text, history = demo.run()
+    print(text)
+    _write_page(chosen.page, history)
     return PASS
 
 

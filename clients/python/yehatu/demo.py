@@ -4,7 +4,6 @@ import tempfile
 from pathlib import Path
 from typing import Any, Dict, Hashable, Tuple
 
-from . import program as programs
 from .errors import NotLinearizable
 from .random_runs import check_random
 
@@ -38,8 +37,8 @@ class Register:
         return self.value
 
 
-def run(page: str) -> str:
-    """Finds the bug, writes the page about it to this file, and returns what a terminal shows."""
+def run() -> Tuple[str, bytes]:
+    """Finds the bug. Returns what a terminal shows, and the history."""
     with tempfile.TemporaryDirectory() as folder:
         try:
             check_random(_make, "register", seeds=200, failure=os.path.join(folder, "demo.json"))
@@ -47,10 +46,8 @@ def run(page: str) -> str:
             text, history = str(error), Path(error.history or "").read_bytes()
         else:
             raise RuntimeError("the bug was not found in 200 runs")
-    found = programs.explain_page(programs.find(), history)
-    Path(page).write_bytes(found)
     shown = text.split("\nthe same as a test:", 1)[0].rstrip()
-    return f"{INTRODUCTION}\n{shown}\n\nthe page about it: {page}"
+    return f"{INTRODUCTION}\n{shown}\n", history
 
 
 def _make(name: Hashable) -> Register:

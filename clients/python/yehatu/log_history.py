@@ -8,13 +8,11 @@ from .errors import NotRepresentable
 from .failure_report import FailureReport
 from .log_lines import DELIVER, READ, CannotJudge, Event, LogFault, Place, thing
 from .log_shapes import checked
-from .numbers import MAX_REPLICAS, RankedClocks
+from .numbers import MAX_COMMANDS, MAX_REPLICAS, RankedClocks
 from .operations import Operation
 from .reports import Reports
 from .translation import Translator
 
-# The largest number of commands of a history (docs/reference/limits.md).
-MAX_COMMANDS = 1_048_576
 # The largest number of lines that lead to a violation and are shown.
 SHOWN_LINES = 16
 

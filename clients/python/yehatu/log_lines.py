@@ -179,8 +179,9 @@ def _clock(value: Any) -> int:
 
 def thing(value: Any) -> Hashable:
     """Returns a JSON value as what messages show, and as the key of a dictionary."""
-    is_plain = isinstance(value, str) or isinstance(value, int) and not isinstance(value, bool)
-    return value if is_plain else Json(_json(value))
+    if isinstance(value, str) or isinstance(value, int) and not isinstance(value, bool):
+        return value
+    return Json(_json(value))
 
 
 def things(value: Any) -> Tuple[Hashable, ...]:

@@ -1,6 +1,5 @@
 """One order of the events of several replicas: each replica's own, and each update before its deliveries."""
-import heapq
-from typing import Dict, Hashable, List, Sequence, Tuple
+from typing import Dict, Hashable, List, Optional, Sequence
 
 from .log_lines import DELIVER, Event, LogFault, Place, shown
 
@@ -9,60 +8,81 @@ SHOWN_LINES = 4
 
 
 def merge(events: Sequence[Event]) -> List[Event]:
-    """Returns the events of one object in an order that keeps each replica's own order and is causal.
+    """Returns the events of one object in their order in the files, but each behind what it depends on.
 
-    Each update comes before its deliveries. Of several possible events the first one in the files comes next, and no
-    wall clock matters.
-
-    Raises `LogFault` if no line has an update of a delivered message, or lines wait for each other.
+    An event depends on the one before it at its replica, and a delivery on its update. No wall clock matters. Raises
+    `LogFault` if no line has an update of a delivered message, or lines wait for each other.
     """
-    senders = _senders(events)
-    waiting: Dict[Hashable, List[int]] = {}
-    sent = set()
-    queues = _queues(events)
-    position = [0] * len(queues)
-    # The next event of each replica that can come next, by its number.
-    ready: List[Tuple[int, int]] = []
-
-    def admit(replica: int) -> None:
-        """Finds out whether the next event of this replica can come next."""
-        if position[replica] == len(queues[replica]):
-            return
-        number = queues[replica][position[replica]]
-        event = events[number]
-        key = event.fields["message"] if event.operation == DELIVER else None
-        if key is None or key in sent:
-            heapq.heappush(ready, (number, replica))
-        elif key in senders:
-            waiting.setdefault(key, []).append(replica)
-        else:
-            raise _never_sent(event)
-
-    for replica in range(len(queues)):
-        admit(replica)
-    merged = []
-    while ready:
-        number, replica = heapq.heappop(ready)
-        event = events[number]
-        merged.append(event)
-        position[replica] += 1
-        admit(replica)
-        if event.operation != DELIVER and "message" in event.fields:
-            sent.add(event.fields["message"])
-            for it in waiting.pop(event.fields["message"], ()):
-                admit(it)
-    if len(merged) < len(events):
-        heads = {key: events[queues[it][position[it]]] for key, found in waiting.items() for it in found}
-        raise _cycle(heads, senders)
-    return merged
+    return _Merge(events).merged
 
 
-def _queues(events: Sequence[Event]) -> List[List[int]]:
-    """Returns the numbers of each replica's events."""
-    queues: Dict[Hashable, List[int]] = {}
-    for number, event in enumerate(events):
-        queues.setdefault(event.replica, []).append(number)
-    return list(queues.values())
+class _Merge:
+    def __init__(self, events: Sequence[Event]) -> None:
+        self.merged: List[Event] = []
+        self._senders = _senders(events)
+        self._previous = _previous(events)
+        # Whether an event is in its place, or only on the stack, by its place in the log.
+        self._is_placed: Dict[Place, bool] = {}
+        for event in events:
+            if event.operation == DELIVER and event.fields.get("message") not in self._senders:
+                raise _never_sent(event)
+        for event in events:
+            self._visit(event)
+
+    def _visit(self, first: Event) -> None:
+        # A stack of its own, since chains of events are as long as the log.
+        stack = [first]
+        while stack:
+            event = stack[-1]
+            lacking = self._lacking(event)
+            if lacking is None:
+                stack.pop()
+                if not self._is_placed.get(event.place):
+                    self._is_placed[event.place] = True
+                    self.merged.append(event)
+            elif lacking.place in self._is_placed:
+                raise self._cycle(stack[stack.index(lacking) :])
+            else:
+                self._is_placed[event.place] = False
+                stack.append(lacking)
+
+    def _lacking(self, event: Event) -> Optional[Event]:
+        """Returns what the event depends on and is in no place so far, or None."""
+        if self._is_placed.get(event.place):
+            return None
+        sender = self._senders[event.fields["message"]] if event.operation == DELIVER else None
+        both = (self._previous.get(event.place), sender)
+        return next((it for it in both if it is not None and not self._is_placed.get(it.place)), None)
+
+    def _cycle(self, chain: Sequence[Event]) -> LogFault:
+        """Creates the fault of lines that wait for each other, each for the next one."""
+        following = [*chain[1:], chain[0]]
+        waiting = [
+            it for it, awaited in zip(chain, following)
+            if it.operation == DELIVER and self._senders[it.fields["message"]] is awaited
+        ]
+        at = min(range(len(waiting)), key=lambda it: waiting[it].place)
+        first = waiting[at]
+        parts = "; ".join(map(self._describe, (waiting[at:] + waiting[:at])[:SHOWN_LINES]))
+        return LogFault(first.place, (
+            f'the field "message" is {shown(first.fields["message"])}, and no order of the lines has each update '
+            f"before its deliveries ({parts}): expected each replica's lines in the order in which they happened there"
+        ))
+
+    def _describe(self, delivery: Event) -> str:
+        key = delivery.fields["message"]
+        return f"{delivery.place} delivers {shown(key)}, which {self._senders[key].place} sends"
+
+
+def _previous(events: Sequence[Event]) -> Dict[Place, Event]:
+    """Returns the event before each event at its replica."""
+    previous: Dict[Place, Event] = {}
+    last: Dict[Hashable, Event] = {}
+    for event in events:
+        if event.replica in last:
+            previous[event.place] = last[event.replica]
+        last[event.replica] = event
+    return previous
 
 
 def _senders(events: Sequence[Event]) -> Dict[Hashable, Event]:
@@ -85,23 +105,4 @@ def _never_sent(event: Event) -> LogFault:
     return LogFault(event.place, (
         f'the field "message" is {shown(event.fields["message"])}, and no update of this object has this message: '
         "expected the key of an update; check the key, and pass the log of the replica that made the update too"
-    ))
-
-
-def _cycle(heads: Dict[Hashable, Event], senders: Dict[Hashable, Event]) -> LogFault:
-    """Creates the fault of lines that wait for each other: each delivers what is made behind another one of them."""
-    by_replica = {event.replica: event for event in heads.values()}
-    event = min(by_replica.values(), key=lambda it: it.place)
-    seen: List[Place] = []
-    while event.place not in seen:
-        seen.append(event.place)
-        event = by_replica[senders[event.fields["message"]].replica]
-    first = event
-    parts = []
-    for place in seen[seen.index(first.place) :][:SHOWN_LINES]:
-        key = next(it.fields["message"] for it in by_replica.values() if it.place == place)
-        parts.append(f"{place} delivers {shown(key)}, which {senders[key].place} sends")
-    return LogFault(first.place, (
-        f'the field "message" is {shown(first.fields["message"])}, and no order of the lines has each update before '
-        f"its deliveries ({'; '.join(parts)}): expected each replica's lines in the order in which they happened there"
     ))

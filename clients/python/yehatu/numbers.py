@@ -8,6 +8,8 @@ MAX_NUMBER = 4_294_967_295
 # The number of a first clock that is too large. It leaves room for clocks that are slightly earlier.
 NUMBER_OF_LARGE_CLOCK = 1 << 28
 MAX_REPLICAS = 64
+# The largest number of commands of a history.
+MAX_COMMANDS = 1_048_576
 MAX_NAME_LENGTH = 16
 RESERVED_NAMES = ("verdict", "join")
 LETTERS, DIGITS = "abcdefghijklmnopqrstuvwxyz", "0123456789"

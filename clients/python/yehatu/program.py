@@ -11,7 +11,10 @@ from typing import IO, Any, Dict, List, NamedTuple, Optional, Union
 
 from .errors import MonitorExited
 
+# The program inside an installed package, as tools/package puts it there.
+INSTALLED = Path(__file__).resolve().parent / "installed" / "bin" / "ra_monitor"
 REPOSITORY = Path(__file__).resolve().parents[3]
+OWN_PROGRAM = REPOSITORY / "ra_monitor"
 CHECK_PROGRAM = REPOSITORY / "crates" / "ra_check_cli" / "out" / "ra_check_cli"
 EXPLAIN_PROGRAM = REPOSITORY / "crates" / "ra_explain_cli" / "out" / "ra_explain_cli"
 # The longest time that an explanation may take, in seconds.
@@ -35,12 +38,27 @@ class CheckResult(NamedTuple):
 
 
 def find(program: Program = None) -> str:
-    """Returns the path of the given program, else of RA_MONITOR, else of the repository's own `ra_monitor`."""
-    chosen = os.fspath(program or os.environ.get("RA_MONITOR") or REPOSITORY / "ra_monitor")
+    """Returns the path of the given program, else of RA_MONITOR, else of the one that is found without being named.
+
+    That is the one inside this package, else in a clone the repository's own, else `ra_monitor` on the path.
+    """
+    chosen = os.fspath(program or os.environ.get("RA_MONITOR") or _unnamed())
     found = shutil.which(chosen)
     if found is None:
         raise MonitorExited(
             f"{chosen} is not a program: pass the path of ra_monitor as `program`, or set RA_MONITOR to it"
+        )
+    return found
+
+
+def _unnamed() -> str:
+    # In a clone this module is below the tool that builds the program.
+    own = OWN_PROGRAM if (REPOSITORY / "tools" / "build").is_file() else None
+    found = next((str(it) for it in (INSTALLED, own) if it and it.is_file()), None) or shutil.which("ra_monitor")
+    if found is None:
+        raise MonitorExited(
+            "there is no program ra_monitor: install a package of yehatu that contains it (tools/package of the "
+            "repository makes one), or set RA_MONITOR to its path"
         )
     return found
 
@@ -52,7 +70,7 @@ def find_for_many_runs(program: Program = None) -> str:
     program that it built is used directly.
     """
     found = find(program)
-    if Path(found).resolve() != REPOSITORY / "ra_monitor":
+    if Path(found).resolve() != OWN_PROGRAM:
         return found
     # Standard error is not captured, so that a first build shows its progress.
     ran = subprocess.run([found, "check"], input=b"RAH 2 counter\nreplicas a\n", stdout=subprocess.DEVNULL)
@@ -144,7 +162,7 @@ def _run_explain(program: str, text: bytes, *options: str) -> Optional["subproce
 
     The repository's own program is not built for this, since that takes minutes.
     """
-    if Path(program).resolve() in (REPOSITORY / "ra_monitor", CHECK_PROGRAM):
+    if Path(program).resolve() in (OWN_PROGRAM, CHECK_PROGRAM):
         program = str(EXPLAIN_PROGRAM)
     try:
         return subprocess.run(

@@ -1,0 +1,112 @@
+// The command `yehatu`: checks logs, shows a failure, and runs a stored failure again.
+import { writeFileSync } from "node:fs";
+import { pathToFileURL } from "node:url";
+import { parseArgs } from "node:util";
+import { runDemo } from "./demo.js";
+import { MonitorExited, ReportFailed } from "./errors.js";
+import { checkLogs, describe } from "./log_check.js";
+import { Verdict } from "./log_history.js";
+import { CannotJudge, LogFault } from "./log_lines.js";
+import { OPERATIONS } from "./operations.js";
+import { replay } from "./random_runs.js";
+
+const PASS = 0;
+const VIOLATION = 1;
+const NO_VERDICT = 2;
+const KINDS = Object.keys(OPERATIONS);
+const USAGE = `\
+usage: yehatu check [--kind KIND] [--object NAME] [--replicas A,B,..] LOG ..
+       yehatu explain [the same] LOG ..
+       yehatu demo [--page FILE]
+       yehatu replay MODULE:CLASS FILE
+
+check judges each object of a log of JSON lines, in which several files are merged by their messages. explain also shows
+the lines that lead to a violation. demo tests a register with a bug at random, and writes a page about the shrunk
+failure. replay runs a stored failure of checkRandom again.
+
+  --kind KIND         ${KINDS.join(", ")}: the kind of objects whose lines state none
+  --object NAME       check this object alone
+  --replicas A,B,..   all replicas, in the order in which ties are broken
+  --page FILE         where the page is written [yehatu_demo.html]
+
+exit status: 0 pass, 1 violation, 2 no verdict (standard error says why)`;
+
+/** Arguments that cannot be used. */
+class WrongArguments extends Error {}
+
+const TEXT = { type: "string" };
+const LOG_OPTIONS = { kind: TEXT, object: TEXT, replicas: TEXT };
+const SUBCOMMANDS = {
+  check: { options: LOG_OPTIONS, run: (files, values) => check(files, values, false) },
+  explain: { options: LOG_OPTIONS, run: (files, values) => check(files, values, true) },
+  demo: { options: { page: TEXT }, run: demo },
+  replay: { options: {}, run: runAgain },
+};
+
+/** Runs the command and returns its exit status. */
+export async function main(words) {
+  if (words.some((it) => it === "--help" || it === "-h")) {
+    console.log(USAGE);
+    return PASS;
+  }
+  try {
+    const [name, ...rest] = words;
+    if (!Object.hasOwn(SUBCOMMANDS, name ?? "")) {
+      throw new WrongArguments(`expected one of ${Object.keys(SUBCOMMANDS).join(", ")}, not ${name ?? "nothing"}`);
+    }
+    const { options, run } = SUBCOMMANDS[name];
+    const { positionals, values } = parsed(rest, options);
+    return await run(positionals, values);
+  } catch (error) {
+    const isExpected = [WrongArguments, CannotJudge, LogFault, MonitorExited].some((it) => error instanceof it);
+    if (!isExpected && error.code === undefined) throw error;
+    const hint = error instanceof WrongArguments ? "; `yehatu --help` lists the arguments" : "";
+    console.error(`yehatu: ${error.message}${hint}`);
+    return NO_VERDICT;
+  }
+}
+
+function parsed(args, options) {
+  try {
+    return parseArgs({ args, options, allowPositionals: true });
+  } catch (error) {
+    throw new WrongArguments(error.message);
+  }
+}
+
+function check(files, { kind, object: only, replicas }, withContext) {
+  if (files.length === 0) throw new WrongArguments("there is no LOG: expected files of JSON lines");
+  if (kind !== undefined && !KINDS.includes(kind)) throw new WrongArguments(`--kind is one of ${KINDS.join(", ")}`);
+  const verdicts = new Set();
+  for (const judged of checkLogs(files, { kind, only, replicas: replicas?.split(",") })) {
+    console.log(describe(judged, withContext));
+    verdicts.add(judged.verdict);
+  }
+  if (verdicts.has(Verdict.VIOLATION)) return VIOLATION;
+  return verdicts.size === 1 && verdicts.has(Verdict.PASS) ? PASS : NO_VERDICT;
+}
+
+async function demo(words, { page = "yehatu_demo.html" }) {
+  if (words.length > 0) throw new WrongArguments(`demo has no argument ${words[0]}`);
+  const { text, page: content } = await runDemo();
+  writeFileSync(page, content);
+  console.log(`${text}\n\nthe page about it: ${page}`);
+  return PASS;
+}
+
+async function runAgain(words) {
+  const [named = "", file] = words;
+  const at = named.lastIndexOf(":");
+  if (words.length !== 2 || at < 1) throw new WrongArguments("replay needs MODULE:CLASS and a FILE");
+  const module = await import(pathToFileURL(named.slice(0, at)));
+  const makeReplica = module[named.slice(at + 1)];
+  if (typeof makeReplica !== "function") throw new WrongArguments(`${named}: the module has no such class`);
+  try {
+    console.log(`pass: ${await replay(makeReplica, file)} steps`);
+    return PASS;
+  } catch (error) {
+    if (!(error instanceof ReportFailed)) throw error;
+    console.log(error.message);
+    return VIOLATION;
+  }
+}
