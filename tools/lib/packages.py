@@ -16,6 +16,7 @@ from crates import Failed
 # The part of README that says what is proved.
 PROVED = re.compile(r"^## What is proved, tested and trusted\n(.*?)(?=^## )", re.MULTILINE | re.DOTALL)
 LINK = re.compile(r"\[([^\]]*)\]\([^)]*\)")
+LICENCE = "No licence has been granted: ask before you use or redistribute this package."
 SUMMARY = "live monitor for replicated data types (CRDTs)"
 # A Python that may have what builds a wheel, if this one has not.
 DEBIAN_PYTHON = "/usr/bin/python3"
@@ -47,16 +48,19 @@ class Setting(NamedTuple):
 
 
 def facts(top, prefix):
-    """The page of facts: what the installed command prints of itself, and the part of README about what is proved."""
-    version = (prefix / "libexec" / "ra_monitor" / "VERSION").read_text()
-    about = re.sub(r"^The last column .*$", "The last column is what `sha256sum` prints of the program.", version,
-                   flags=re.MULTILINE)
+    """The page of facts: what the installed command prints of itself, and the part of README about what is proved.
+
+    The command prints the folder of its programs, which is another one wherever a package is installed.
+    """
+    version = prefix / "libexec" / "ra_monitor" / "VERSION"
+    about = version.read_text().replace(f" in {version.parent}", "")
+    version.write_text(about)
     proved = PROVED.search((top / "README.md").read_text())
     if proved is None:
         raise Failed("README.md has no part 'What is proved, tested and trusted': expected one for the page of facts")
     block = "".join(f"    {it}\n" if it else "\n" for it in about.splitlines())
     # The targets of links are not in the package.
-    return f"# Facts\n\n{block}\n{LINK.sub(lambda link: link[1], proved[0]).rstrip()}\n"
+    return f"# Facts\n\n{LICENCE}\n\n{block}\n{LINK.sub(lambda link: link[1], proved[0]).rstrip()}\n"
 
 
 def run(words, folder, **environment):

@@ -200,6 +200,9 @@ test("the default program is that of the repository", () => {
   const built = join(top, "crates", "ra_check_cli", "out");
   mkdirSync(built, { recursive: true });
   symlinkSync(realpathSync(find()), join(built, "ra_check_cli"));
+  // By this file the client knows that it is in a clone.
+  mkdirSync(join(top, "tools"));
+  writeFileSync(join(top, "tools", "build"), "");
   // It prints a line at each start.
   renameSync(script("echo started >&2", `exec "${built}/ra_check_cli" "$@"`), join(top, "ra_monitor"));
   const code = `

@@ -228,6 +228,9 @@ monitor.settle()
         built = top / "crates" / "ra_check_cli" / "out" / "ra_check_cli"
         built.parent.mkdir(parents=True)
         built.symlink_to(Path(yehatu.program.find()).resolve())
+        # By this file the client knows that it is in a clone.
+        (top / "tools").mkdir()
+        (top / "tools" / "build").touch()
         # It prints a line at each start.
         os.rename(script(self.folder.name, "echo started >&2", f'exec "{built}" "$@"'), top / "ra_monitor")
         code = """
