@@ -8,6 +8,7 @@ import { checkLogs, describe } from "./log_check.js";
 import { Verdict } from "./log_history.js";
 import { CannotJudge, LogFault } from "./log_lines.js";
 import { OPERATIONS } from "./operations.js";
+import { explainPage, find } from "./program.js";
 import { replay } from "./random_runs.js";
 
 const PASS = 0;
@@ -15,8 +16,8 @@ const VIOLATION = 1;
 const NO_VERDICT = 2;
 const KINDS = Object.keys(OPERATIONS);
 const USAGE = `\
-usage: yehatu check [--kind KIND] [--object NAME] [--replicas A,B,..] LOG ..
-       yehatu explain [the same] LOG ..
+usage: yehatu check [--kind KIND] [--object NAME] [--replicas A,B,..] [--history FILE] LOG ..
+       yehatu explain [the same] [--page FILE] LOG ..
        yehatu demo [--page FILE]
        yehatu replay MODULE:CLASS FILE
 
@@ -27,7 +28,8 @@ failure. replay runs a stored failure of checkRandom again.
   --kind KIND         ${KINDS.join(", ")}: the kind of objects whose lines state none
   --object NAME       check this object alone
   --replicas A,B,..   all replicas, in the order in which ties are broken
-  --page FILE         where the page is written [yehatu_demo.html]
+  --history FILE      write the history of the object that is judged last
+  --page FILE         write a page about the first violation [of demo: yehatu_demo.html]
 
 exit status: 0 pass, 1 violation, 2 no verdict (standard error says why)`;
 
@@ -35,10 +37,10 @@ exit status: 0 pass, 1 violation, 2 no verdict (standard error says why)`;
 class WrongArguments extends Error {}
 
 const TEXT = { type: "string" };
-const LOG_OPTIONS = { kind: TEXT, object: TEXT, replicas: TEXT };
+const LOG_OPTIONS = { kind: TEXT, object: TEXT, replicas: TEXT, history: TEXT };
 const SUBCOMMANDS = {
   check: { options: LOG_OPTIONS, run: (files, values) => check(files, values, false) },
-  explain: { options: LOG_OPTIONS, run: (files, values) => check(files, values, true) },
+  explain: { options: { ...LOG_OPTIONS, page: TEXT }, run: (files, values) => check(files, values, true) },
   demo: { options: { page: TEXT }, run: demo },
   replay: { options: {}, run: runAgain },
 };
@@ -74,23 +76,31 @@ function parsed(args, options) {
   }
 }
 
-function check(files, { kind, object: only, replicas }, withContext) {
+function check(files, { kind, object: only, replicas, history, page }, withContext) {
   if (files.length === 0) throw new WrongArguments("there is no LOG: expected files of JSON lines");
   if (kind !== undefined && !KINDS.includes(kind)) throw new WrongArguments(`--kind is one of ${KINDS.join(", ")}`);
   const verdicts = new Set();
   for (const judged of checkLogs(files, { kind, only, replicas: replicas?.split(",") })) {
     console.log(describe(judged, withContext));
+    if (history !== undefined) writeFileSync(history, judged.history);
+    const isFirst = judged.verdict === Verdict.VIOLATION && !verdicts.has(Verdict.VIOLATION);
+    if (isFirst && page !== undefined) writePage(page, judged.history);
     verdicts.add(judged.verdict);
   }
   if (verdicts.has(Verdict.VIOLATION)) return VIOLATION;
   return verdicts.size === 1 && verdicts.has(Verdict.PASS) ? PASS : NO_VERDICT;
 }
 
+function writePage(path, history) {
+  writeFileSync(path, explainPage(find(), history));
+  console.log(`the page about it: ${path}`);
+}
+
 async function demo(words, { page = "yehatu_demo.html" }) {
   if (words.length > 0) throw new WrongArguments(`demo has no argument ${words[0]}`);
-  const { text, page: content } = await runDemo();
-  writeFileSync(page, content);
-  console.log(`${text}\n\nthe page about it: ${page}`);
+  const { text, history } = await runDemo();
+  console.log(text);
+  writePage(page, history);
   return PASS;
 }
 

@@ -3,7 +3,6 @@ import { mkdtempSync, readFileSync, rmSync } from "node:fs";
 import { tmpdir } from "node:os";
 import { join } from "node:path";
 import { NotLinearizable } from "./errors.js";
-import { explainPage, find } from "./program.js";
 import { checkRandom } from "./random_runs.js";
 
 const INTRODUCTION = `\
@@ -37,16 +36,15 @@ class Register {
   }
 }
 
-/** Finds the bug. Returns what a terminal shows, and the page about it. */
+/** Finds the bug. Returns what a terminal shows, and the history. */
 export async function runDemo() {
   const folder = mkdtempSync(join(tmpdir(), "yehatu_"));
   try {
     await checkRandom(Register, "register", { seeds: 200, failure: join(folder, "demo.json") });
   } catch (error) {
     if (!(error instanceof NotLinearizable)) throw error;
-    const page = explainPage(find(), readFileSync(error.history, "ascii"));
     const [shown] = error.message.split("\nthe same as a test:");
-    return { text: `${INTRODUCTION}\n${shown.trimEnd()}`, page };
+    return { text: `${INTRODUCTION}\n${shown.trimEnd()}\n`, history: readFileSync(error.history, "ascii") };
   } finally {
     rmSync(folder, { recursive: true });
   }

@@ -59,28 +59,31 @@ class LogHistory {
 
 /**
  * Checks the events of one object, which are in a causal order. Returns its name, kind and verdict; `details`, which
- * are the failure in the log's own words, or the totals of a pass; and the lines that lead to a failure. Throws
- * `LogFault` if an event is malformed.
+ * are the failure in the log's own words, or the totals of a pass; the lines that lead to a failure; and the history
+ * that the program read, up to a failure. Throws `LogFault` if an event is malformed.
  */
 export function judge(name, kind, replicas, events, program) {
+  const judged = { name, kind, context: [], history: "" };
   const reason = obstacle(replicas, events);
-  if (reason !== null) return { name, kind, verdict: Verdict.UNJUDGED, details: reason, context: [] };
+  if (reason !== null) return { ...judged, verdict: Verdict.UNJUDGED, details: reason };
   const history = new LogHistory(kind, replicas, events);
   if (history.places.length > MAX_COMMANDS) {
     const details =
       `it has ${history.places.length} operations and deliveries, and a history at most ${MAX_COMMANDS}: check a ` +
       "part of the log, from a moment at which all replicas were equal";
-    return { name, kind, verdict: Verdict.UNJUDGED, details, context: [] };
+    return { ...judged, verdict: Verdict.UNJUDGED, details };
   }
   const { replies } = checkText(program, history.text());
   const failed = replies.findIndex((it) => /^(no|refused) /.test(it));
-  if (failed < 0) return { name, kind, verdict: Verdict.PASS, details: totals(replicas, events), context: [] };
+  if (failed < 0) {
+    return { ...judged, verdict: Verdict.PASS, details: totals(replicas, events), history: history.text() };
+  }
   const text = history.text(failed + 1);
   const report = history.report(text);
   const details = report.summarize(replies[failed], report.explain(text, replies[failed], program));
   const verdict = replies[failed].startsWith("no ") ? Verdict.VIOLATION : Verdict.REJECTED;
   const numbers = [...Array(failed + 1).keys()].slice(-SHOWN_LINES);
-  return { name, kind, verdict, details, context: numbers.map((it) => report.describe(it)) };
+  return { ...judged, verdict, details, context: numbers.map((it) => report.describe(it)), history: text };
 }
 
 /** Returns why the events cannot be judged, or null. */

@@ -100,6 +100,8 @@ export const FIELDS = {
  */
 export function readEvents(paths) {
   const events = [];
+  const twice = paths.find((it, index) => paths.indexOf(it) !== index);
+  if (twice !== undefined) throw new LogFault(twice, "the file is given twice: expected each file once");
   for (const path of paths) {
     const file = path === STANDARD_INPUT ? "standard input" : path;
     linesOf(path).forEach((line, index) => {

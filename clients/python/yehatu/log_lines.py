@@ -77,14 +77,18 @@ def read_events(paths: Iterable[str]) -> List[Event]:
 
     Raises `LogFault` for the first line that is no event, and `CannotJudge` if the log is of another sort.
     """
-    return [event for path in paths for event in _events_of(path)]
+    chosen = list(paths)
+    for path in chosen:
+        if chosen.count(path) > 1:
+            raise LogFault(path, "the file is given twice: expected each file once")
+    return [event for path in chosen for event in _events_of(path)]
 
 
 def _events_of(path: str) -> Iterator[Event]:
     for number, line in enumerate(_lines_of(path), 1):
         place = Place("standard input" if path == STANDARD_INPUT else path, number)
         try:
-            text = line.decode("utf-8").strip()
+            text = line.decode("utf-8-sig").strip()
         except UnicodeDecodeError:
             raise LogFault(place, "the line is not UTF-8: expected JSON in UTF-8") from None
         if text:
