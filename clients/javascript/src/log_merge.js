@@ -1,13 +1,14 @@
 // One order of the events of several replicas: each replica's own, and each update before its deliveries.
-import { DELIVER, LogFault, shown } from "./log_lines.js";
+import { DELIVER, LogFault, READ, shown } from "./log_lines.js";
 
 // The largest number of lines that the fault of a cycle names.
 const SHOWN_LINES = 4;
 
 /**
  * Returns the events of one object in their order in the files, but each behind what it depends on: the one before it
- * at its replica, and a delivery's update. No wall clock matters. Throws `LogFault` if no line has an update of a
- * delivered message, or lines wait for each other.
+ * at its replica, and a delivery's update. No wall clock matters. Updates come early, so that an explanation of a read
+ * can name an update that was delivered too late. Throws `LogFault` if no line has an update of a delivered message, or
+ * lines wait for each other.
  */
 export function merge(events) {
   const senders = sendersOf(events);
@@ -16,8 +17,9 @@ export function merge(events) {
   const previous = previousOfReplicas(events);
   const placed = new Set();
   const updateOf = (event) => (event.operation === DELIVER ? senders.get(event.message) : undefined);
-  const lacking = (event) => [previous.get(event), updateOf(event)].find((it) => it !== undefined && !placed.has(it));
-  for (const event of events) placeWithDependencies(event, lacking, placed, senders);
+  const lacking = (event) => [updateOf(event), previous.get(event)].find((it) => it !== undefined && !placed.has(it));
+  const [reads, others] = [true, false].map((isRead) => events.filter((it) => (it.operation === READ) === isRead));
+  for (const event of [...others, ...reads]) placeWithDependencies(event, lacking, placed, senders);
   return [...placed];
 }
 

@@ -1,7 +1,7 @@
 """One order of the events of several replicas: each replica's own, and each update before its deliveries."""
 from typing import Dict, Hashable, List, Optional, Sequence
 
-from .log_lines import DELIVER, Event, LogFault, Place, shown
+from .log_lines import DELIVER, READ, Event, LogFault, Place, shown
 
 # The largest number of lines that the fault of a cycle names.
 SHOWN_LINES = 4
@@ -10,8 +10,9 @@ SHOWN_LINES = 4
 def merge(events: Sequence[Event]) -> List[Event]:
     """Returns the events of one object in their order in the files, but each behind what it depends on.
 
-    An event depends on the one before it at its replica, and a delivery on its update. No wall clock matters. Raises
-    `LogFault` if no line has an update of a delivered message, or lines wait for each other.
+    An event depends on the one before it at its replica, and a delivery on its update. No wall clock matters. Updates
+    come early, so that an explanation of a read can name an update that was delivered too late. Raises `LogFault` if
+    no line has an update of a delivered message, or lines wait for each other.
     """
     return _Merge(events).merged
 
@@ -26,7 +27,7 @@ class _Merge:
         for event in events:
             if event.operation == DELIVER and event.fields.get("message") not in self._senders:
                 raise _never_sent(event)
-        for event in events:
+        for event in sorted(events, key=lambda it: it.operation == READ):
             self._visit(event)
 
     def _visit(self, first: Event) -> None:
@@ -51,7 +52,7 @@ class _Merge:
         if self._is_placed.get(event.place):
             return None
         sender = self._senders[event.fields["message"]] if event.operation == DELIVER else None
-        both = (self._previous.get(event.place), sender)
+        both = (sender, self._previous.get(event.place))
         return next((it for it in both if it is not None and not self._is_placed.get(it.place)), None)
 
     def _cycle(self, chain: Sequence[Event]) -> LogFault:
