@@ -399,6 +399,10 @@ def an_installed_program_that_is_missing(repository):
     program.unlink()
     ran = run_installed(command, ["explain"], bare, "/")
     require(ran.refuses(f"{program} is missing: please install once more (tools/install)"), ran)
+    help_file = program.parent / "help"
+    help_file.unlink()
+    ran = run_installed(command, ["check"], bare, "/")
+    require(ran.refuses(f"{help_file} is missing: please install once more (tools/install)"), ran)
 
 
 @check

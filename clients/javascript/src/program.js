@@ -69,10 +69,15 @@ export function findForManyRuns(program) {
 export function checkText(program, text) {
   const ran = spawnSync(program, ["check"], { input: text, encoding: "utf8", maxBuffer: 1 << 30 });
   if (ran.error) throw new MonitorExited(`${program} could not be started: ${ran.error.message}`);
-  if (!COMPLETE.includes(ran.status)) {
-    throw new MonitorExited(describeExit(program, ran.status ?? ran.signal, ran.stderr, text));
-  }
-  return { replies: ran.stdout.split("\n").slice(0, -1), status: ran.status };
+  return completeRun(program, text, ran.status ?? ran.signal, ran.stdout, ran.stderr);
+}
+
+/** Returns the replies and the status of a run. Throws `MonitorExited` if it did not read its whole input. */
+function completeRun(program, text, status, stdout, stderr) {
+  const replies = stdout.split("\n").slice(0, -1);
+  // A shell that fails exits with a status of the monitor too, so the status alone shows no pass.
+  if (COMPLETE.includes(status) && replies.at(-1)?.startsWith("end ")) return { replies, status };
+  throw new MonitorExited(describeExit(program, status, stderr, text));
 }
 
 /** The program on a whole history, which it checks while the caller does other things. */
@@ -110,10 +115,7 @@ export class Check {
   async wait() {
     const { error, status } = await this.#end;
     if (error) throw new MonitorExited(`${this.#program} could not be started: ${error.message}`);
-    if (!COMPLETE.includes(status)) {
-      throw new MonitorExited(describeExit(this.#program, status, this.#stderr, this.#text));
-    }
-    return { replies: this.#stdout.split("\n").slice(0, -1), status };
+    return completeRun(this.#program, this.#text, status, this.#stdout, this.#stderr);
   }
 
   /** Kills the program. */

@@ -8,7 +8,7 @@ import { after, test } from "node:test";
 import { fileURLToPath, pathToFileURL } from "node:url";
 import * as yehatu from "../index.js";
 import { Monitor, MonitorExited } from "../index.js";
-import { find } from "../src/program.js";
+import { Check, checkText, find } from "../src/program.js";
 
 const { cpSync, mkdirSync, mkdtempSync, realpathSync, renameSync, rmSync, symlinkSync, writeFileSync } = files;
 const folder = realpathSync(mkdtempSync(join(tmpdir(), "yehatu_")));
@@ -191,6 +191,16 @@ test("the environment names the program", async () => {
   if (before === undefined) delete process.env.RA_MONITOR;
   else process.env.RA_MONITOR = before;
   await assert.rejects(monitor.tell("a inc"), hasExited(/of the environment/));
+});
+
+test("a run without its end line is no pass", async () => {
+  const text = "RAH 2 counter\nreplicas a\na inc\n";
+  const fault = hasExited(/its standard error is "broken"/);
+  for (const lines of ["echo broken >&2; exit 1", "cat > /dev/null; echo ok 0; echo broken >&2; exit 0"]) {
+    const program = script(lines);
+    assert.throws(() => checkText(program, text), fault);
+    await assert.rejects(new Check(program, text).wait(), fault);
+  }
 });
 
 test("the default program is that of the repository", () => {

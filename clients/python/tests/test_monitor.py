@@ -211,6 +211,12 @@ monitor.settle()
         )
         self.assertEqual((ran.stdout, ran.stderr, ran.returncode), ("ok 0\n", "", 0))
 
+    def test_a_run_without_its_end_line_is_no_pass(self) -> None:
+        for lines in (["echo broken >&2; exit 1"], ["cat > /dev/null; echo ok 0; echo broken >&2; exit 0"]):
+            program = yehatu.program.find_for_many_runs(script(self.folder.name, *lines))
+            with self.subTest(lines=lines), self.assertRaisesRegex(MonitorExited, "its standard error is 'broken'"):
+                yehatu.program.check_text(program, b"RAH 2 counter\nreplicas a\na inc\n")
+
     def test_the_environment_names_the_program(self) -> None:
         before = os.environ.get("RA_MONITOR")
         os.environ["RA_MONITOR"] = script(self.folder.name, "echo of the environment >&2; exit 3")

@@ -107,9 +107,12 @@ class Check:
     def wait(self) -> CheckResult:
         """Waits for the program and returns its replies."""
         stdout, stderr = self._process.communicate()
-        if self._process.returncode not in COMPLETE:
+        replies = stdout.decode("ascii", "replace").splitlines()
+        # A shell that fails exits with a status of the monitor too, so the status alone shows no pass.
+        is_complete = self._process.returncode in COMPLETE and replies[-1:] and replies[-1].startswith("end ")
+        if not is_complete:
             raise MonitorExited(describe_exit(self._program, self._process.returncode, stderr, self._text))
-        return CheckResult(stdout.decode("ascii", "replace").splitlines(), self._process.returncode)
+        return CheckResult(replies, self._process.returncode)
 
     def stop(self) -> None:
         """Kills the program."""
