@@ -1,6 +1,7 @@
 // The command `yehatu`: checks logs, shows a failure, and runs a stored failure again.
 import { writeFileSync } from "node:fs";
-import { pathToFileURL } from "node:url";
+import { basename, dirname, extname, join, relative } from "node:path";
+import { fileURLToPath, pathToFileURL } from "node:url";
 import { parseArgs } from "node:util";
 import { runDemo } from "./demo.js";
 import { MonitorExited, ReportFailed } from "./errors.js";
@@ -60,8 +61,9 @@ export async function main(words) {
     const { positionals, values } = parsed(rest, options);
     return await run(positionals, values);
   } catch (error) {
-    const isExpected = [WrongArguments, CannotJudge, LogFault, MonitorExited].some((it) => error instanceof it);
-    if (!isExpected && error.code === undefined) throw error;
+    // A RangeError says what is wrong with a file of steps or its path, and an error with a code comes from the system.
+    const expected = [WrongArguments, CannotJudge, LogFault, MonitorExited, RangeError];
+    if (!expected.some((it) => error instanceof it) && error.code === undefined) throw error;
     const hint = error instanceof WrongArguments ? "; `yehatu --help` lists the arguments" : "";
     console.error(`yehatu: ${error.message}${hint}`);
     return NO_VERDICT;
@@ -98,9 +100,12 @@ function writePage(path, history) {
 
 async function demo(words, { page = "yehatu_demo.html" }) {
   if (words.length > 0) throw new WrongArguments(`demo has no argument ${words[0]}`);
-  const { text, history } = await runDemo();
+  const steps = `${join(dirname(page), basename(page, extname(page)))}.json`;
+  const { text, history } = await runDemo(steps);
   console.log(text);
   writePage(page, history);
+  const module = relative(".", fileURLToPath(new URL("demo.js", import.meta.url)));
+  console.log(`the same run again: yehatu replay ${module}:Register ${steps}`);
   return PASS;
 }
 

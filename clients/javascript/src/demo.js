@@ -1,7 +1,5 @@
 // The demonstration: a register with a bug, its shrunk failure, and the page about it.
-import { mkdtempSync, readFileSync, rmSync } from "node:fs";
-import { tmpdir } from "node:os";
-import { join } from "node:path";
+import { readFileSync } from "node:fs";
 import { NotLinearizable } from "./errors.js";
 import { checkRandom } from "./random_runs.js";
 
@@ -11,7 +9,7 @@ of equal clocks, the write that arrives last wins. checkRandom runs three replic
 `;
 
 /** A last-writer-wins register with a bug: `>=` takes the later arrival where clocks are equal. */
-class Register {
+export class Register {
   clock = 0;
   stamp = [0, ""];
   value = null;
@@ -36,17 +34,14 @@ class Register {
   }
 }
 
-/** Finds the bug. Returns what a terminal shows, and the history. */
-export async function runDemo() {
-  const folder = mkdtempSync(join(tmpdir(), "yehatu_"));
+/** Finds the bug, and stores its steps in this file. Returns what a terminal shows, and the history. */
+export async function runDemo(failure) {
   try {
-    await checkRandom(Register, "register", { seeds: 200, failure: join(folder, "demo.json") });
+    await checkRandom(Register, "register", { seeds: 200, failure });
   } catch (error) {
     if (!(error instanceof NotLinearizable)) throw error;
     const [shown] = error.message.split("\nthe same as a test:");
     return { text: `${INTRODUCTION}\n${shown.trimEnd()}\n`, history: readFileSync(error.history, "ascii") };
-  } finally {
-    rmSync(folder, { recursive: true });
   }
   throw new Error("the bug was not found in 200 runs");
 }

@@ -86,9 +86,14 @@ def _write_page(path: str, history: bytes) -> None:
 
 
 def _demo(chosen: argparse.Namespace) -> int:
-    text, history = demo.run()
+    steps = str(Path(chosen.page).with_suffix(".json"))
+    try:
+        text, history = demo.run(steps)
+    except ValueError as error:
+        raise _Unusable(str(error)) from None
     print(text)
     _write_page(chosen.page, history)
+    print(f"the same run again: yehatu replay yehatu.demo:Register {steps}")
     return PASS
 
 

@@ -1,6 +1,4 @@
 """The demonstration: a register with a bug, its shrunk failure, and the page about it."""
-import os
-import tempfile
 from pathlib import Path
 from typing import Any, Dict, Hashable, Tuple
 
@@ -16,8 +14,8 @@ of equal clocks, the write that arrives last wins. check_random runs three repli
 class Register:
     """A last-writer-wins register with a bug: `>=` takes the later arrival where clocks are equal."""
 
-    def __init__(self, name: str) -> None:
-        self.name, self.clock, self.value = name, 0, None
+    def __init__(self, name: Hashable) -> None:
+        self.name, self.clock, self.value = str(name), 0, None
         self.stamp: Tuple[int, str] = (0, "")
 
     def write(self, value: Any) -> Dict[str, Any]:
@@ -37,18 +35,13 @@ class Register:
         return self.value
 
 
-def run() -> Tuple[str, bytes]:
-    """Finds the bug. Returns what a terminal shows, and the history."""
-    with tempfile.TemporaryDirectory() as folder:
-        try:
-            check_random(_make, "register", seeds=200, failure=os.path.join(folder, "demo.json"))
-        except NotLinearizable as error:
-            text, history = str(error), Path(error.history or "").read_bytes()
-        else:
-            raise RuntimeError("the bug was not found in 200 runs")
+def run(failure: str) -> Tuple[str, bytes]:
+    """Finds the bug, and stores its steps in this file. Returns what a terminal shows, and the history."""
+    try:
+        check_random(Register, "register", seeds=200, failure=failure)
+    except NotLinearizable as error:
+        text, history = str(error), Path(error.history or "").read_bytes()
+    else:
+        raise RuntimeError("the bug was not found in 200 runs")
     shown = text.split("\nthe same as a test:", 1)[0].rstrip()
     return f"{INTRODUCTION}\n{shown}\n", history
-
-
-def _make(name: Hashable) -> Register:
-    return Register(str(name))
