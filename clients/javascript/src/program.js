@@ -68,7 +68,10 @@ export function findForManyRuns(program) {
 /** Checks a whole history. Returns the replies, one for each command and the `end` line, and the exit status. */
 export function checkText(program, text) {
   const ran = spawnSync(program, ["check"], { input: text, encoding: "utf8", maxBuffer: 1 << 30 });
-  if (ran.error) throw new MonitorExited(`${program} could not be started: ${ran.error.message}`);
+  // EPIPE says that the program ended before it read all, and then its status and standard error say why.
+  if (ran.error && ran.error.code !== "EPIPE") {
+    throw new MonitorExited(`${program} could not be started: ${ran.error.message}`);
+  }
   return completeRun(program, text, ran.status ?? ran.signal, ran.stdout, ran.stderr);
 }
 

@@ -194,7 +194,8 @@ test("the environment names the program", async () => {
 });
 
 test("a run without its end line is no pass", async () => {
-  const text = "RAH 2 counter\nreplicas a\na inc\n";
+  // No pipe holds this text, so a program that does not read it breaks the pipe.
+  const text = `RAH 2 counter\nreplicas a\n${"a inc\n".repeat(100_000)}`;
   const fault = hasExited(/its standard error is "broken"/);
   for (const lines of ["echo broken >&2; exit 1", "cat > /dev/null; echo ok 0; echo broken >&2; exit 0"]) {
     const program = script(lines);
