@@ -3,6 +3,7 @@ pub mod Befores
 pub mod Cycles
 pub mod EdgeCounts
 pub mod EdgePools
+pub mod EdgesInto
 pub mod Ends
 pub mod Halves
 pub mod Insertions

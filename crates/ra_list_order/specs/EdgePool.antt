@@ -1,5 +1,5 @@
 -- Edges that are linked by the element where they begin, and counted by the elements at both ends.
-use Rattle.std.specs.Prelude.{◌≡◌, ℕ, ◌-◌, ◌<◌, ◌≤◌, ◌==◌, ◌&&◌, Bool, List, length, get_or, count_by, Option, unwrap_or}
+use Rattle.std.specs.Prelude.{◌≡◌, ℕ, ◌-◌, ◌<◌, ◌≤◌, ◌==◌, ◌&&◌, Bool, List, length, map, get_or, count_by, Option, unwrap_or}
 use Rattle.std.specs.Ordering.{nat_cmp, ordering_then}
 use Rattle.std.specs.declared.cmp.Ordering.{Ordering}
 use Rattle.ra_list_order.specs.declared.edge.Edge.{Edge}
@@ -35,8 +35,13 @@ pair_cmp x y = ordering_then (nat_cmp x.0 y.0) (nat_cmp x.1 y.1)
 abbrev pub AreCounted : (ℕ × ℕ → Option ℕ) → List Edge → Type 0
 AreCounted count edges = (a b : ℕ) → unwrap_or (count (a, b)) 0 ≡ count_by (is_from_to a b) edges
 
+-- the edge in the other direction
+abbrev pub flipped : Edge → Edge
+flipped edge = record { before = edge.after; after = edge.before; label = edge.label }
+
 -- the representation invariant of a pool
-pub record EdgePoolKept (last : ℕ → Option ℕ) (count : ℕ × ℕ → Option ℕ) (edges : List Edge)
-    (previous : List ℕ) : Type 0 where
+pub record EdgePoolKept (last last_into : ℕ → Option ℕ) (count : ℕ × ℕ → Option ℕ) (edges : List Edge)
+    (previous previous_into : List ℕ) : Type 0 where
   pub linked : EdgesLinked last edges previous
+  pub linked_into : EdgesLinked last_into (map flipped edges) previous_into
   pub counted : AreCounted count edges

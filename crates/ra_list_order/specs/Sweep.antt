@@ -14,6 +14,15 @@ pub record AreEdgesFrom (x : ℕ) (edges begun : List Edge) : Type 0 where
 abbrev pub PushesEdgesFrom : ℕ → List Edge → List Edge → List Edge → Type 0
 PushesEdgesFrom x edges old new = (begun : List Edge) × (new ≡ old ++ begun) × AreEdgesFrom x edges begun
 
+-- holds if the second list has exactly the edges to x, in any order
+pub record AreEdgesInto (x : ℕ) (edges ended : List Edge) : Type 0 where
+  pub only : (edge : Edge) → Contains ended edge → Contains edges edge × (edge.after ≡ x)
+  pub each : (edge : Edge) → Contains edges edge → edge.after ≡ x → Contains ended edge
+
+-- holds if the edges to x were appended, in any order
+abbrev pub PushesEdgesInto : ℕ → List Edge → List Edge → List Edge → Type 0
+PushesEdgesInto x edges old new = (ended : List Edge) × (new ≡ old ++ ended) × AreEdgesInto x edges ended
+
 pub record IsSwept (stretch : List ℕ) (edges : List Edge) (start : ℕ) (stays moves : List ℕ)
     (walked : List Edge) : Type 0 where
   -- the two lists have the elements of the stretch

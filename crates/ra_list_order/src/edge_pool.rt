@@ -2,9 +2,10 @@
 ghost use Rattle.std.specs.Prelude.{◌≡◌, ◌-◌, ◌++◌, ◌∷◌, [], length, take, IsTrue, ◌↔◌, OnOk, OnErr, unwrap_or};
 ghost use Rattle.std.specs.BTreeMap.{get};
 ghost use Rattle.ra_list_order.specs.declared.edge.Edge.{Edge};
+ghost use Rattle.std.specs.Ordering.{nat_cmp};
 ghost use Rattle.ra_list_order.specs.EdgePool.{pair_cmp};
 ghost use Rattle.ra_list_order.specs.Edges.{HasEdge};
-ghost use Rattle.ra_list_order.specs.Sweep.{PushesEdgesFrom};
+ghost use Rattle.ra_list_order.specs.Sweep.{PushesEdgesFrom, PushesEdgesInto};
 
 use crate::edge::Edge;
 use ra_labels::NoMemory;
@@ -24,6 +25,10 @@ pub struct EdgePool {
     edges: Vec<Edge>,
     /// For each edge, the number of the previous one from the same element, or 0.
     links: Vec<usize>,
+    /// For each element where an edge ends, the number of the last one.
+    lasts_into: BTreeMap<u32, usize>,
+    /// For each edge, the number of the previous one to the same element, or 0.
+    links_into: Vec<usize>,
 }
 
 impl Model for EdgePool {
@@ -38,7 +43,8 @@ impl Model for EdgePool {
     ghost view = { λ a. a.edges.items };
 
     ghost invariant = { λ a.
-        EdgePoolKept (get nat_cmp a.lasts) (get pair_cmp a.counts) a.edges.items a.links.items };
+        EdgePoolKept (get nat_cmp a.lasts) (get nat_cmp a.lasts_into) (get pair_cmp a.counts) a.edges.items
+        a.links.items a.links_into.items };
 }
 
 impl EdgePool {
@@ -51,6 +57,8 @@ impl EdgePool {
             counts: BTreeMap::new(alloc),
             edges: Vec::new(alloc),
             links: Vec::new(alloc),
+            lasts_into: BTreeMap::new(alloc),
+            links_into: Vec::new(alloc),
         }
     }
 
@@ -69,12 +77,17 @@ impl EdgePool {
     {
         self.edges.reserve(1)?;
         self.links.reserve(1)?;
+        self.links_into.reserve(1)?;
         let pair = (edge.before, edge.after);
         let count = count_of(&self.counts, edge.before, edge.after);
         self.counts.insert(pair, count)?;
+        let link_into = number_of(&self.lasts_into, edge.after);
+        self.lasts_into.insert(edge.after, link_into)?;
         let number = self.edges.len() + 1;
         let link = self.lasts.insert(edge.before, number)?;
         let _ = self.counts.insert(pair, count + 1);
+        let _ = self.lasts_into.insert(edge.after, number);
+        self.links_into.push_reserved(link_into);
         self.links.push_reserved(link.unwrap_or(0));
         self.edges.push_reserved(edge);
         Ok(())
@@ -89,6 +102,8 @@ impl EdgePool {
         };
         let link = self.links.pop().unwrap_or(0);
         let _ = self.lasts.insert(edge.before, link);
+        let link_into = self.links_into.pop().unwrap_or(0);
+        let _ = self.lasts_into.insert(edge.after, link_into);
         let count = count_of(&self.counts, edge.before, edge.after);
         let _ = self.counts.insert((edge.before, edge.after), count - 1);
     }
@@ -106,7 +121,8 @@ impl EdgePool {
         }
     }
 
-    fn len(&self) -> usize
+    /// Returns the number of edges.
+    pub fn len(&self) -> usize
         ensures { result ≡ length self.now }
     {
         self.edges.len()
@@ -132,6 +148,52 @@ impl EdgePool {
         Ok(())
     }
 
+    /// Appends the edges to the element to the list.
+    ///
+    /// # Errors
+    ///
+    /// `NoMemory` if allocation fails.
+    ///
+    /// # Complexity
+    ///
+    /// O(length of the result), and O(log n) with `n` edges to find the last one.
+    pub fn push_into(&self, walked: &mut Vec<Edge>, element: u32) -> Result<(), NoMemory>
+        ensures { OnOk result (PushesEdgesInto element self.now walked.old.items walked.new.items) }
+    {
+        let mut at = number_of(&self.lasts_into, element);
+        while at > 0 {
+            walked.push(self.edges[at - 1])?;
+            at = self.links_into[at - 1];
+        }
+        Ok(())
+    }
+
+    /// Returns the number of the last edge from the element: its index plus one, or 0 if there is none.
+    pub fn last_from(&self, element: u32) -> usize {
+        number_of(&self.lasts, element)
+    }
+
+    /// Returns the number of the last edge to the element, or 0 if there is none.
+    pub fn last_into(&self, element: u32) -> usize {
+        number_of(&self.lasts_into, element)
+    }
+
+    /// Returns the edge with this number, and the number of the previous one from the same element, or 0.
+    pub fn edge_from(&self, number: usize) -> Option<(Edge, usize)> {
+        let index = number.checked_sub(1)?;
+        let edge = self.edges.get(index)?;
+        let link = self.links.get(index)?;
+        Some((*edge, *link))
+    }
+
+    /// Returns the edge with this number, and the number of the previous one to the same element, or 0.
+    pub fn edge_into(&self, number: usize) -> Option<(Edge, usize)> {
+        let index = number.checked_sub(1)?;
+        let edge = self.edges.get(index)?;
+        let link = self.links_into.get(index)?;
+        Some((*edge, *link))
+    }
+
     /// Returns `true` if the pool has an edge from one element to another.
     ///
     /// # Complexity
@@ -142,6 +204,13 @@ impl EdgePool {
     {
         count_of(&self.counts, before, after) > 0
     }
+}
+
+// Returns the number under an element, or 0.
+fn number_of(lasts: &BTreeMap<u32, usize>, element: u32) -> usize
+    ensures { result ≡ unwrap_or (get nat_cmp lasts.now element) 0 }
+{
+    lasts.get(&element).copied().unwrap_or(0)
 }
 
 // Returns the count under a pair.
