@@ -1,6 +1,7 @@
 pub mod Chunks
 pub mod EdgePool
 pub mod Edges
+pub mod Gathering
 pub mod ListOrder
 pub mod Listing
 pub mod Marks

@@ -2,13 +2,14 @@
 ghost use Rattle.std.specs.Prelude.{◌≡◌, ◌<◌, ◌≤◌, ◌++◌, nat_le, [], length, IfOk, OnOk, OnErr};
 ghost use Rattle.std.specs.List.{insert};
 ghost use Rattle.ra_list_order.specs.Chunks.{most_in_chunk};
+ghost use Rattle.ra_list_order.specs.Listing.{without};
 
 use ra_labels::NoMemory;
 use std::alloc::Global;
 use std::marker::Model;
 
 /// The number of elements from which on a chunk is split before an insertion.
-const MOST_IN_CHUNK: usize = 128;
+pub const MOST_IN_CHUNK: usize = 128;
 
 /// A few adjacent elements.
 #[derive(Drop)]
@@ -113,6 +114,26 @@ impl Chunk {
         elements.extend_from_slice(&self.elements.as_slice()[position..])?;
         self.elements.truncate(position);
         Ok(Chunk { group, elements })
+    }
+
+    /// Removes an element, wherever it is. Does not allocate.
+    ///
+    /// # Complexity
+    ///
+    /// O(c) with `c` elements in the chunk.
+    pub fn remove(&mut self, element: u32)
+        ensures group { self.new.group ≡ self.old.group }
+        ensures elements { self.new.elements ≡ without element self.old.elements }
+    {
+        self.elements.retain(|other| *other != element);
+    }
+
+    /// Replaces the elements. Does not allocate.
+    pub fn replace(&mut self, elements: Vec<u32>)
+        ensures group { self.new.group ≡ self.old.group }
+        ensures elements { self.new.elements ≡ elements.items }
+    {
+        self.elements = elements;
     }
 
     /// Overwrites the elements with as many others. Does not allocate.

@@ -1,14 +1,18 @@
 //! Lists of chunks: the elements of some, copied and overwritten, and the split of one.
-ghost use Rattle.std.specs.Prelude.{◌≡◌, ℕ, ◌<◌, ◌≤◌, length, vec_len, vec_capacity, get_or, IfOk};
+ghost use Rattle.std.specs.Prelude.{◌≡◌, ℕ, ◌<◌, ◌≤◌, length, vec_len, vec_capacity, get_or, Contains, IfOk};
 ghost use Rattle.std.specs.BTreeMap.{get};
 ghost use Rattle.std.specs.Ordering.{nat_cmp};
-ghost use Rattle.ra_list_order.specs.Chunks.{joined, AreGrouped, HaveSameGroups, IsRaised};
+ghost use Rattle.ra_list_order.specs.Chunks.{chunk_at, joined, AreGrouped, HaveSameGroups, IsRaised};
+ghost use Rattle.ra_list_order.specs.Gathering.{ArePacked, AreRemoved};
 
 use crate::chunk::Chunk;
 use crate::groups::move_to;
 use ra_labels::NoMemory;
 use std::alloc::Global;
 use std::collections::BTreeMap;
+
+/// The number of elements of each new chunk if many elements are put into chunks.
+pub const SPREAD: usize = 96;
 
 /// Returns the elements of the chunks in order.
 ///
@@ -69,22 +73,96 @@ pub fn split(
     ensures joined { joined chunks.new.items ≡ joined chunks.old.items }
     ensures as_many { vec_len chunks.old ≤ vec_len chunks.new }
 {
-    places.reserve(1)?;
-    chunks.reserve(1)?;
-    let at = place + 1;
-    let group = places.len();
     let len = chunks[place].elements().len();
-    let keep = if at == chunks.len() {
+    let keep = if place + 1 == chunks.len() {
         len.saturating_sub(1)
     } else {
         len / 2
     };
+    split_at(groups, chunks, places, place, keep)
+}
+
+/// Splits the chunk at the index behind the given number of elements.
+///
+/// # Errors
+///
+/// `NoMemory` if allocation fails; nothing is changed.
+///
+/// # Complexity
+///
+/// O(c + m log n) with `c` chunks, `n` elements and `m` that move.
+pub fn split_at(
+    groups: &mut BTreeMap<u32, usize>,
+    chunks: &mut Vec<Chunk>,
+    places: &mut Vec<usize>,
+    place: usize,
+    keep: usize,
+) -> Result<(), NoMemory>
+    requires place { place < vec_len chunks.old }
+    requires keep { keep ≤ length (chunk_at chunks.old.items place).elements }
+    requires grouped { AreGrouped (get nat_cmp groups.old) chunks.old.items places.old.items }
+    ensures grouped { AreGrouped (get nat_cmp groups.new) chunks.new.items places.new.items }
+    ensures joined { joined chunks.new.items ≡ joined chunks.old.items }
+    ensures as_many { vec_len chunks.old ≤ vec_len chunks.new }
+{
+    places.reserve(1)?;
+    chunks.reserve(1)?;
+    let at = place + 1;
+    let group = places.len();
     let right = chunks[place].split_off(keep, group)?;
     move_to(groups, right.elements(), group);
     raise(places, at);
     places.push_reserved(at);
     let _ = chunks.insert(at, right);
     Ok(())
+}
+
+/// Removes each of the elements from its chunk. Does not allocate.
+///
+/// # Complexity
+///
+/// O(k (log n + c)) for `k` of `n` elements, with `c` in one chunk.
+pub fn remove_all(
+    groups: &BTreeMap<u32, usize>,
+    chunks: &mut Vec<Chunk>,
+    places: &Vec<usize>,
+    elements: &[u32],
+)
+    requires grouped { AreGrouped (get nat_cmp groups.now) chunks.old.items places.now.items }
+    requires known { (x : ℕ) → Contains elements.now x → Contains (joined chunks.old.items) x }
+    ensures { AreRemoved elements.now chunks.old.items chunks.new.items }
+{
+    for element in elements {
+        let place = places[groups[element]];
+        chunks[place].remove(*element);
+    }
+}
+
+/// Returns new chunks with the elements, and their places: the group of each chunk is its index.
+///
+/// # Errors
+///
+/// `NoMemory` if allocation fails.
+///
+/// # Complexity
+///
+/// O(k) with `k` elements.
+pub fn packed(alloc: Global, elements: &[u32]) -> Result<(Vec<Chunk>, Vec<usize>), NoMemory>
+    ensures { IfOk result (λ new. ArePacked elements.now new.0.items new.1.items) }
+{
+    let mut chunks = Vec::new(alloc);
+    let mut places = Vec::new(alloc);
+    let mut done = 0;
+    while done < elements.len() {
+        let more = (elements.len() - done).min(SPREAD);
+        let part = elements[done..done + more].to_vec(alloc)?;
+        let mut chunk = Chunk::new(alloc, chunks.len());
+        chunk.replace(part);
+        places.push(chunks.len())?;
+        chunks.push(chunk)?;
+        done += more;
+    }
+    Ok((chunks, places))
 }
 
 // Adds one to each index from this one on.

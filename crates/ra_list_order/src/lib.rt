@@ -8,6 +8,7 @@
 
 mod chunk;
 mod chunks;
+mod cut;
 mod edge;
 mod edge_pool;
 mod groups;

@@ -1,14 +1,18 @@
 //! Distinct elements in an order, in chunks, with the chunk of each. Its contract is that of the chunks' concatenation.
-ghost use Rattle.std.specs.Prelude.{◌≡◌, ◌<◌, ◌≤◌, ◌++◌, ◌∷◌, ◌↔◌, [], Some, None, length, take, drop, Contains, IsTrue, IfOk, OnOk, OnErr, MatchOption, slice_index};
+ghost use Rattle.std.specs.BTreeMap.{get};
+ghost use Rattle.std.specs.Ordering.{nat_cmp};
+ghost use Rattle.std.specs.Prelude.{ℕ, IfSome, ◌≡◌, ◌<◌, ◌≤◌, ◌++◌, ◌∷◌, ◌↔◌, [], Some, None, length, take, drop, Contains, IsTrue, IfOk, OnOk, OnErr, MatchOption, slice_index};
 ghost use Rattle.std.specs.List.{between};
 ghost use Rattle.std.specs.List.Sorted.{IsPermutation};
-ghost use Rattle.ra_list_order.specs.Edges.{IsBefore};
+ghost use Rattle.ra_list_order.specs.Edges.{EachOnce, IsBefore};
+ghost use Rattle.ra_list_order.specs.Gathering.{gathered, left_of, right_of, IsAt, IsIndex};
 ghost use Rattle.ra_list_order.specs.ListOrder.{IsPut};
 ghost use Rattle.ra_list_order.specs.Chunks.{chunk_at, joined, IsInsertedAt, IsSpan};
 
-use crate::chunk::Chunk;
-use crate::chunks::{copied, refill, split};
-use crate::groups::move_to_chunks;
+use crate::chunk::{Chunk, MOST_IN_CHUNK};
+use crate::chunks::{SPREAD, copied, packed, refill, remove_all, split, split_at};
+use crate::cut::{Spot, gathered};
+use crate::groups::{move_to, move_to_chunks};
 use crate::parts::{is_before, position_of};
 use ra_labels::NoMemory;
 use std::alloc::Global;
@@ -194,6 +198,142 @@ impl Sequence {
         }
         self.make_room(0)?;
         self.insert_at(0, 0, element)
+    }
+
+    /// Returns where the element is, or `None` if it is not in the sequence.
+    ///
+    /// # Complexity
+    ///
+    /// O(log n + c) with `n` elements, `c` of them in one chunk.
+    pub fn find(&self, element: u32) -> Option<Spot>
+        ensures { IfSome result (λ spot. IsAt self.now element spot.chunk spot.index) }
+    {
+        if !self.contains(element) {
+            return None;
+        }
+        let chunk = self.place_of(element);
+        let index = position_of(self.chunks[chunk].elements(), element);
+        Some(Spot { chunk, index })
+    }
+
+    /// Returns `true` if the sequence can be cut there.
+    pub fn can_be_cut(&self, cut: Spot) -> bool
+        ensures chunk { IsTrue result → cut.chunk < length self.now }
+        ensures index { IsTrue result → cut.index ≤ length (chunk_at self.now cut.chunk).elements }
+    {
+        cut.chunk < self.chunks.len() && cut.index <= self.chunks[cut.chunk].elements().len()
+    }
+
+    /// Returns `true` if the element is before the cut.
+    ///
+    /// # Complexity
+    ///
+    /// That of `find`.
+    pub fn is_in_front(&self, element: u32, cut: Spot) -> bool
+        ensures { IsTrue result → Contains (left_of self.now cut.chunk cut.index) element }
+    {
+        let Some(spot) = self.find(element) else {
+            return false;
+        };
+        spot.chunk < cut.chunk || spot.chunk == cut.chunk && spot.index < cut.index
+    }
+
+    /// Returns `true` if the element is behind the cut.
+    ///
+    /// # Complexity
+    ///
+    /// That of `find`.
+    pub fn is_behind(&self, element: u32, cut: Spot) -> bool
+        ensures { IsTrue result → Contains (right_of self.now cut.chunk cut.index) element }
+    {
+        let Some(spot) = self.find(element) else {
+            return false;
+        };
+        spot.chunk > cut.chunk || spot.chunk == cut.chunk && spot.index >= cut.index
+    }
+
+    /// Moves elements to a cut.
+    ///
+    /// # Errors
+    ///
+    /// `NoMemory` if allocation fails; the elements and their order are unchanged.
+    ///
+    /// # Complexity
+    ///
+    /// O(k (log n + c)) with `n` elements, `c` of them in one chunk, and `k` that are moved. If the chunk that is cut
+    /// gets too long, it is split, which takes O(n / 64) more for each 96 elements that are moved.
+    pub fn gather(
+        &mut self,
+        alloc: Global,
+        cut: Spot,
+        moved: &[u32],
+        index: &BTreeMap<u32, usize>,
+    ) -> Result<(), NoMemory>
+        requires chunk { cut.chunk < length self.old }
+        requires within { cut.index ≤ length (chunk_at self.old cut.chunk).elements }
+        requires known { (x : ℕ) → Contains moved.now x → Contains (joined self.old) x }
+        requires once { EachOnce moved.now }
+        requires index { IsIndex (get nat_cmp index.now) moved.now }
+        ensures gathered { OnOk result (joined self.new ≡ gathered (left_of self.old cut.chunk cut.index) moved.now
+            (right_of self.old cut.chunk cut.index)) }
+        ensures failed { OnErr result (joined self.new ≡ joined self.old) }
+    {
+        let all = gathered(
+            alloc,
+            self.chunks[cut.chunk].elements(),
+            cut.index,
+            moved,
+            index,
+        )?;
+        remove_all(&self.groups, &mut self.chunks, &self.places, moved);
+        self.chunks[cut.chunk].replace(all);
+        let group = self.chunks[cut.chunk].group();
+        move_to(&mut self.groups, moved, group);
+        self.spread(cut.chunk);
+        if self.chunks.len() / 2 > self.groups.len() / 64 + 8 {
+            self.pack(alloc);
+        }
+        Ok(())
+    }
+
+    // Puts the elements into as few chunks as are filled by 96 each. If allocation fails, nothing is changed.
+    fn pack(&mut self, alloc: Global)
+        ensures { joined self.new ≡ joined self.old }
+    {
+        let Ok(elements) = copied(alloc, &self.chunks) else {
+            return;
+        };
+        let Ok((chunks, places)) = packed(alloc, &elements) else {
+            return;
+        };
+        self.chunks = chunks;
+        self.places = places;
+        move_to_chunks(&mut self.groups, &self.chunks);
+    }
+
+    // Splits the chunk at the index until it is not too long. If allocation fails, it stays as it is.
+    fn spread(&mut self, place: usize)
+        requires { place < length self.old }
+        ensures { joined self.new ≡ joined self.old }
+    {
+        for _turn in 0..self.chunks[place].elements().len() {
+            let len = self.chunks[place].elements().len();
+            if len <= MOST_IN_CHUNK {
+                return;
+            }
+            let keep = len - SPREAD;
+            if split_at(
+                &mut self.groups,
+                &mut self.chunks,
+                &mut self.places,
+                place,
+                keep,
+            )
+            .is_err()
+            {
+                return;
+            }
+        }
     }
 
     // Returns the index of the chunk of the element.

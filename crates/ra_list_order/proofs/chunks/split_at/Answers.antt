@@ -4,7 +4,7 @@ use Rattle.std.specs.Ordering.{nat_cmp}
 use Rattle.std.specs.Prelude.{Contains, IsSome}
 use Rattle.ra_list_order.specs.Chunks.{IsRaised, AreMovedTo}
 use Rattle.ra_list_order.proofs.Halves.{chosen, split_failed, split_failed_joined, split_moves, split_joined, split_grouped}
-use Rattle.ra_list_order.proofs.chunks.split.Goals as goal
+use Rattle.ra_list_order.proofs.chunks.split_at.Goals as goal
 
 pub returns-in_err-right-clause-grouped : goal.returns-in_err-right-clause-grouped
 returns-in_err-right-clause-grouped c =
