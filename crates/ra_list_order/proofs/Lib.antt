@@ -5,6 +5,7 @@ pub mod EdgeCounts
 pub mod EdgePools
 pub mod EdgesInto
 pub mod Ends
+pub mod Gatherings
 pub mod Halves
 pub mod Indexes
 pub mod Insertions
@@ -16,6 +17,7 @@ pub mod Others
 pub mod Packings
 pub mod Puts
 pub mod ReadLists
+pub mod Rearrangements
 pub mod Removals
 pub mod Spans
 pub mod Spots

@@ -5,5 +5,6 @@ pub mod Gathering
 pub mod ListOrder
 pub mod Listing
 pub mod Marks
+pub mod Plans
 pub mod Reads
 pub mod Sweep

@@ -11,9 +11,11 @@ mod chunks;
 mod cut;
 mod edge;
 mod edge_pool;
+mod gathering;
 mod groups;
 mod list_order;
 mod parts;
+mod search;
 mod sequence;
 mod sweep;
 #[cfg(test)]

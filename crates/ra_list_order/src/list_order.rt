@@ -1,13 +1,16 @@
 //! The kept order and its edges.
-ghost use Rattle.std.specs.Prelude.{◌≡◌, ◌+◌, ◌<◌, ◌≤◌, ◌++◌, ◌∷◌, [], length, take, drop, vec_len, Contains, IfOk, OnOk, OnErr, IfSome, MatchOption, IsTrue, ◌↔◌};
+ghost use Rattle.std.specs.Prelude.{◌≡◌, ◌+◌, ◌<◌, ◌≤◌, ◌++◌, ◌∷◌, [], length, take, drop, vec_len, Contains, IfOk, OnOk, OnErr, IfSome, MatchBool, MatchOption, IsTrue, ◌↔◌};
 ghost use Rattle.std.specs.List.Sorted.{IsPermutation};
 ghost use Rattle.ra_list_order.specs.declared.edge.Edge.{Edge};
 ghost use Rattle.ra_list_order.specs.Edges.{EachOnce, Extends, HasEdge, IsCycle};
 ghost use Rattle.ra_list_order.specs.ListOrder.{IsPut};
 
+use crate::cut::index_of;
 use crate::edge::Edge;
 use crate::edge_pool::EdgePool;
+use crate::gathering::can_be_done;
 use crate::parts::{part_with, write_back};
+use crate::search::{Plan, search};
 use crate::sequence::{Sequence, Span};
 use crate::sweep::sweep;
 use crate::way::{is_marked, way_to};
@@ -150,9 +153,9 @@ impl ListOrder {
     ///
     /// # Complexity
     ///
-    /// With `n` elements and edges, O(log n) if `before` is already before `after`. Otherwise O((k + m) log n), where
-    /// `k` is the number of elements in the chunks from that of `after` to that of `before`, and `m` that of the edges
-    /// from those that move.
+    /// With `n` elements and edges, O(log n) if `before` is already before `after`. Otherwise O(s (log n + c)): `c` is
+    /// the number of elements in one chunk, at most 128, and `s` that of the edges that the search walks, O(√m) of `m`
+    /// edges, amortized. An edge that closes a cycle takes O(n log n).
     pub fn add(
         &mut self,
         alloc: Global,
@@ -182,15 +185,88 @@ impl ListOrder {
             after,
             label,
         };
-        let Some(span) = self.order.span(after, before) else {
+        if self.order.span(after, before).is_none() {
+            self.edges.push(edge)?;
+            return Ok(None);
+        }
+        if self.rearrange(alloc, edge)? {
+            return Ok(None);
+        }
+        self.add_by_sweep(alloc, edge)
+    }
+
+    /// Returns the elements that move for a new edge that is against the order, or `None` if the edge closes a cycle.
+    pub(crate) fn plan(&self, alloc: Global, edge: Edge) -> Result<Option<Plan>, NoMemory> {
+        search(alloc, &self.order, &self.edges, edge)
+    }
+
+    /// Returns the number of chunks of the order, for the tests of costs.
+    pub(crate) fn chunk_count(&self) -> usize {
+        self.order.chunk_count()
+    }
+
+    // Adds an edge by a move of the elements that the two-way search finds. Returns `false`, and changes nothing, if
+    // the search reaches an element from both sides.
+    fn rearrange(&mut self, alloc: Global, edge: Edge) -> Result<bool, NoMemory>
+        ensures elements { IsPermutation self.old.order self.new.order }
+        ensures extends { Extends self.new.order self.new.edges }
+        ensures answer { IfOk result (λ done. MatchBool done (self.new.edges ≡ self.old.edges ++ edge ∷ [])
+            (self.new ≡ self.old)) }
+        ensures failed { OnErr result (self.new ≡ self.old) }
+    {
+        let Some(plan) = self.plan(alloc, edge)? else {
+            return Ok(false);
+        };
+        let mut moved = Vec::new(alloc);
+        moved.extend_from_slice(&plan.ancestors)?;
+        moved.extend_from_slice(&plan.descendants)?;
+        let Some(index) = index_of(alloc, &moved)? else {
+            return Ok(false);
+        };
+        if !self.order.can_be_cut(plan.cut)
+            || !can_be_done(alloc, &self.order, &self.edges, &plan, &index, edge)?
+        {
+            return Ok(false);
+        }
+        let kept = self.edges.len();
+        self.edges.push(edge)?;
+        match self.order.gather(alloc, plan.cut, &moved, &index) {
+            Ok(()) => Ok(true),
+            Err(error) => {
+                self.edges.truncate(kept);
+                Err(error)
+            }
+        }
+    }
+
+    // Adds an edge by a sweep over the part of the order between its ends. Finds the cycle that the edge closes, if
+    // there is one.
+    fn add_by_sweep(&mut self, alloc: Global, edge: Edge) -> Result<Option<Vec<Edge>>, NoMemory>
+        // The earlier element is in the order.
+        requires before { Contains self.old.order edge.before }
+        // The later element is in the order.
+        requires after { Contains self.old.order edge.after }
+        // The elements are the same; only their order may change.
+        ensures elements { IsPermutation self.old.order self.new.order }
+        // The order extends the edges.
+        ensures extends { Extends self.new.order self.new.edges }
+        // The result is `None` and the edge is added behind the others, or the result is a cycle of the edges and this
+        // one, and nothing is changed.
+        ensures answer { let edges = self.old.edges ++ edge ∷ [] in
+            IfOk result (λ found. MatchOption found (self.new.edges ≡ edges)
+            (λ cycle. (self.new ≡ self.old) × IsCycle edges cycle.items)) }
+        // After a failure nothing is changed.
+        ensures failed { OnErr result (self.new ≡ self.old) }
+    {
+        let Some(span) = self.order.span(edge.after, edge.before) else {
             self.edges.push(edge)?;
             return Ok(None);
         };
         let mut elements = self.order.copied(alloc, span)?;
-        let (start, end) = part_with(&elements, after, before);
-        let swept = sweep(alloc, &elements[start..end], &self.edges, after)?;
-        if is_marked(after, &swept.walked, before) {
-            let mut cycle = way_to(alloc, after, &swept.walked, before)?;
+        let (start, end) = part_with(&elements, edge.after, edge.before);
+        let swept = sweep(alloc, &elements[start..end], &self.edges, edge.after)?;
+        if is_marked(edge.after, &swept.walked, edge.before) {
+            let mut cycle = way_to(alloc, edge.after, &swept.walked, edge.before)?;
             cycle.insert(0, edge)?;
             return Ok(Some(cycle));
         }

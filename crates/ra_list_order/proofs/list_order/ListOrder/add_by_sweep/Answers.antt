@@ -1,15 +1,14 @@
 use Rattle.std.proofs.Common.{◌≡◌, ◌++◌, ◌∙◌, List, [], ℕ, take, drop, refl, sym, ap, subst}
 use Rattle.std.specs.List.Sorted.{IsPermutation}
 use Rattle.std.specs.List.{between}
-use Rattle.ra_list_order.specs.declared.edge.Edge.{Edge}
 use Rattle.ra_list_order.specs.Chunks.{joined}
 use Rattle.ra_list_order.specs.ListOrder.{ListOrder, ListOrderKept}
 use Rattle.ra_list_order.proofs.Adds.{parts_fit, same_elements, swept_elements, swept_kept, add_cycles}
-use Rattle.ra_list_order.proofs.list_order.ListOrder.add.Goals as goal
+use Rattle.ra_list_order.proofs.list_order.ListOrder.add_by_sweep.Goals as goal
 
 pub returns-then-is_marked-clause-answer : goal.returns-then-is_marked-clause-answer
 returns-then-is_marked-clause-answer c =
-    let edge : Edge = record { before = c.args.before; after = c.args.after; label = c.args.label } in (
+    let edge = c.args.edge in (
       refl,
       add_cycles _ _ _ _ edge _ _ _ _ _ _ (ap (λ (l : ListOrder). l.edges) c.self.view_is) refl
           c.in_ok-swept.ensures c.deref-then-is_marked.ensures.value c.in_ok-cycle.ensures.chain
@@ -18,7 +17,7 @@ returns-then-is_marked-clause-answer c =
 
 pub write_back-requires : goal.write_back-requires
 write_back-requires c =
-    let edge : Edge = record { before = c.args.before; after = c.args.after; label = c.args.label } in
+    let edge = c.args.edge in
     parts_fit c.self.inside.order c.in-Some.span.first c.in-Some.span.end c.in_ok-elements.elements.items
     c.deref.result.now c.deref-2.result.now c.part_with-start.result.0 c.part_with-start.result.1 c.self.inside.edges
     edge
@@ -31,7 +30,7 @@ write_back-requires c =
 
 pub overwrite-requires-clause-same : goal.overwrite-requires-clause-same
 overwrite-requires-clause-same c =
-    let edge : Edge = record { before = c.args.before; after = c.args.after; label = c.args.label } in
+    let edge = c.args.edge in
     subst (λ xs. IsPermutation (joined (between c.in-Some.span.first c.in-Some.span.end c.self.inside.order)) xs)
     (sym c.deref-6.ensures.value)
     (same_elements c.self.inside.order c.in-Some.span.first c.in-Some.span.end c.in_ok-elements.elements.items
@@ -54,7 +53,7 @@ overwritten c =
 
 moved : (c : goal.After-drop-elements-2) → IsPermutation (joined c.self.inside.order) (joined c.overwrite.new.self)
 moved c =
-    let edge : Edge = record { before = c.args.before; after = c.args.after; label = c.args.label } in
+    let edge = c.args.edge in
     swept_elements c.self.inside.order c.in-Some.span.first c.in-Some.span.end c.in_ok-elements.elements.items
     c.deref.result.now c.deref-2.result.now c.part_with-start.result.0 c.part_with-start.result.1 c.self.inside.edges
     edge
@@ -67,7 +66,7 @@ moved c =
 
 kept : (c : goal.After-drop-elements-2) → ListOrderKept (joined c.overwrite.new.self) c.push-2.new.self
 kept c =
-    let edge : Edge = record { before = c.args.before; after = c.args.after; label = c.args.label } in
+    let edge = c.args.edge in
     swept_kept c.self.inside.order c.in-Some.span.first c.in-Some.span.end c.in_ok-elements.elements.items
     c.deref.result.now c.deref-2.result.now c.part_with-start.result.0 c.part_with-start.result.1 c.self.inside.edges
     edge
