@@ -20,6 +20,8 @@ mod sequence;
 mod sweep;
 #[cfg(test)]
 mod tests;
+#[cfg(test)]
+mod tests_of_costs;
 pub mod theorems;
 mod way;
 

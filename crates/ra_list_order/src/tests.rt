@@ -5,6 +5,7 @@ use crate::sequence::Sequence;
 use crate::{Edge, ListOrder};
 use ra_labels::NoMemory;
 use std::alloc::Global;
+use std::collections::{BTreeMap, BTreeSet};
 use std::process::Abort;
 use std::test::Fail;
 
@@ -124,6 +125,120 @@ fn rejects_exactly_cycles(rt: HostRuntime) -> Result<(), Fail> {
         }
     }
     assert!(rt; added > 1000 && rejected > 1000, "{added} {rejected}");
+    Ok(())
+}
+
+/// The number of elements of an order with random edges.
+const SCATTERED: u32 = 200;
+
+// Returns `true` if the edges lead from one element to another.
+fn is_reachable(alloc: Global, edges: &[Edge], from: u32, to: u32) -> Result<bool, NoMemory> {
+    let mut marked = BTreeSet::new(alloc);
+    marked.insert(from)?;
+    for _pass in 0..edges.len() {
+        if !mark_ends(&mut marked, edges)? {
+            break;
+        }
+    }
+    Ok(marked.contains(&to))
+}
+
+// Returns the index of each element.
+fn places_of(alloc: Global, elements: &[u32]) -> Result<BTreeMap<u32, usize>, NoMemory> {
+    let mut places = BTreeMap::new(alloc);
+    for (i, element) in elements.iter().enumerate() {
+        places.insert(*element, i)?;
+    }
+    Ok(places)
+}
+
+// Returns `true` if the edge is from an element to a later one.
+fn leads_forward(places: &BTreeMap<u32, usize>, edge: Edge) -> bool {
+    let Some(from) = places.get(&edge.before) else {
+        return false;
+    };
+    let Some(to) = places.get(&edge.after) else {
+        return false;
+    };
+    *from < *to
+}
+
+// Returns `true` if each edge is from an element to a later one.
+fn extends(alloc: Global, elements: &[u32], edges: &[Edge]) -> Result<bool, NoMemory> {
+    let places = places_of(alloc, elements)?;
+    for edge in edges {
+        if !leads_forward(&places, *edge) {
+            return Ok(false);
+        }
+    }
+    Ok(true)
+}
+
+// Marks the ends of edges from marked elements. Returns `true` if one was not marked before.
+fn mark_ends(marked: &mut BTreeSet<u32>, edges: &[Edge]) -> Result<bool, NoMemory> {
+    let mut grows = false;
+    for edge in edges {
+        if marked.contains(&edge.before) {
+            let is_new = marked.insert(edge.after)?;
+            grows = grows || is_new;
+        }
+    }
+    Ok(grows)
+}
+
+// Returns the next of a sequence of random numbers.
+fn next_random(state: u64) -> u64 {
+    state
+        .wrapping_mul(6_364_136_223_846_793_005)
+        .wrapping_add(1_442_695_040_888_963_407)
+}
+
+// Adds an edge. Returns `true` if it was added, which is to be so exactly if its end does not reach its beginning. The
+// order extends the edges that were added.
+fn is_added(
+    rt: &impl Abort,
+    alloc: Global,
+    order: &mut ListOrder,
+    added: &mut Vec<Edge>,
+    new: Edge,
+) -> Result<bool, NoMemory> {
+    let cyclic = is_reachable(alloc, added.as_slice(), new.after, new.before)?;
+    let found = add(rt, alloc, order, new)?;
+    assert!(rt; found.is_some() == cyclic, "at {}", new.label);
+    if !cyclic {
+        added.push(new)?;
+    }
+    let elements = order.elements(alloc)?;
+    assert!(rt; extends(alloc, elements.as_slice(), added.as_slice())?);
+    Ok(!cyclic)
+}
+
+// 400 random edges among 200 elements.
+#[test]
+fn extends_random_edges(rt: HostRuntime) -> Result<(), Fail> {
+    let alloc = rt.alloc();
+    let mut order = ListOrder::new(alloc);
+    for element in 0..SCATTERED {
+        put_behind(&rt, &mut order, element, element.checked_sub(1))?;
+    }
+    let mut added = Vec::new(alloc);
+    let mut state = 1u64;
+    let mut rejected = 0u32;
+    for label in 0..400u32 {
+        state = next_random(state);
+        let before = ((state >> 40) % 200) as u32;
+        let after = ((state >> 20) % 200) as u32;
+        if !is_added(
+            &rt,
+            alloc,
+            &mut order,
+            &mut added,
+            edge(before, after, label),
+        )? {
+            rejected = rejected.saturating_add(1);
+        }
+    }
+    assert!(rt; rejected > 20 && added.len() > 200, "{rejected}");
     Ok(())
 }
 
