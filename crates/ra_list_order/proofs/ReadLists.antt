@@ -39,8 +39,10 @@ ends_listed label [] edge there = absurd (none_there edge there)
 ends_listed label (x ∷ []) edge there = absurd (none_there edge there)
 ends_listed label (x ∷ y ∷ list) edge there =
     elim (head_or_behind (edge_of label x y) (edges_of_read label (y ∷ list)) edge there) [
-      | inl here ↦ (at_head x (y ∷ list) edge.before (ap (λ (e : Edge). e.before) here),
-          behind_head x (y ∷ list) edge.after (at_head y list edge.after (ap (λ (e : Edge). e.after) here)))
+      | inl here ↦ (
+        at_head x (y ∷ list) edge.before (ap (λ (e : Edge). e.before) here),
+        behind_head x (y ∷ list) edge.after (at_head y list edge.after (ap (λ (e : Edge). e.after) here)),
+      )
       | inr further ↦
           let rest = ends_listed label (y ∷ list) edge further in
           (behind_head x (y ∷ list) edge.before rest.0, behind_head x (y ∷ list) edge.after rest.1)
@@ -118,9 +120,9 @@ follows (z ∷ order) (h ∷ list) label new once among extends = elim (cases_Bo
       let head = same_head z order label h list new extends (listed_there (h ∷ list) z listed) in
       let apart : ¬ Contains list z = subst (λ k. ¬ Contains list k) head once.0 in
       let rest = follows order list label new.1 once.1
-          (λ x there. in_rest z order x (λ same. apart (subst (Contains list) (sym same) there))
-          (among x (behind_head h list x there)))
-          (extended_without z order label list apart (rest_extended (z ∷ order) label h list extends)) in
+      (λ x there. in_rest z order x (λ same. apart (subst (Contains list) (sym same) there))
+      (among x (behind_head h list x there)))
+      (extended_without z order label list apart (rest_extended (z ∷ order) label h list extends)) in
       ap (λ k. k ∷ list) head ∙ ap (λ xs. z ∷ xs) rest
       ∙ ap (λ xs. z ∷ xs) (sym (head_apart order z list new.0))
       ∙ ap (λ k. z ∷ in_order order (k ∷ list)) (sym head)
@@ -138,8 +140,10 @@ headed : (z : ℕ) (order : List ℕ) (label : ℕ) (list : List ℕ) → ((x : 
 headed z order label [] among extends = λ edge there. absurd (none_there edge there)
 headed z order label (y ∷ list) among extends =
     λ edge there. elim (head_or_behind (edge_of label z y) (edges_of_read label (y ∷ list)) edge there) [
-      | inl here ↦ inl (ap (λ (e : Edge). e.before) here,
-          subst (Contains order) (ap (λ (e : Edge). e.after) here) (among y (at_head y list y refl)))
+      | inl here ↦ inl (
+        ap (λ (e : Edge). e.before) here,
+        subst (Contains order) (ap (λ (e : Edge). e.after) here) (among y (at_head y list y refl)),
+      )
       | inr further ↦ inr (extends edge further)
     ]
 

@@ -86,6 +86,14 @@ impl ListOrder {
         self.edges.contains(before, after)
     }
 
+    /// Returns the number of edges.
+    pub fn edge_count(&self) -> usize
+        // The result is the number of edges.
+        ensures { result ≡ length self.now.edges }
+    {
+        self.edges.len()
+    }
+
     /// Returns the elements in order.
     ///
     /// # Errors

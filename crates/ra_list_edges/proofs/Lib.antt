@@ -1,0 +1,2 @@
+pub mod PairEdges
+pub mod PlacedElements

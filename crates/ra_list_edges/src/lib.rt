@@ -1,0 +1,17 @@
+//! The edges that the operations of a list require of its kept order.
+//!
+//! Contract for the crates above: `add_read` adds an edge from each listed element to the next one, and `add_insertion`
+//! those of a new element and its neighbours. Each adds all of its edges; or it returns a cycle of them and the earlier
+//! ones, and changes nothing but the order. So does a failed allocation.
+#![tactic(auto)]
+
+mod insertion;
+mod pairs;
+mod placing;
+mod read;
+#[cfg(test)]
+mod tests;
+
+pub use insertion::Insertion;
+pub use placing::add_insertion;
+pub use read::add_read;
