@@ -3,8 +3,9 @@ import re
 
 from judgement import Does, Operation
 from specification import add_one, are_all_shown, are_inserted, are_shown, are_some_shown, are_the_elements
-from specification import are_the_identifiers, are_the_paired_elements, hide, insert_after, insert_between, is_inserted
-from specification import is_the_state, mark_removed, put_in, put_pair_in, take_one, take_out, take_pairs_out, write
+from specification import are_the_identifiers, are_the_paired_elements, are_the_values, hide, insert_after
+from specification import insert_between, is_inserted, is_the_state, mark_removed, put_in, put_pair_in
+from specification import replace_writes, take_one, take_out, take_pairs_out, write
 
 GREATEST_NUMBER = 4_294_967_295
 GREATEST_SIGNED = 2_147_483_647
@@ -51,7 +52,7 @@ def read_of(kind, piece):
     if kind == "register":
         return Operation(kind, query=Does(is_the_state, (piece if piece == "none" else number_of(piece),)))
     elements = list_of(piece)
-    sets = {"lwwset": are_the_elements, "orset": are_the_paired_elements}
+    sets = {"lwwset": are_the_elements, "orset": are_the_paired_elements, "mvregister": are_the_values}
     question = {**sets, "rga": are_shown, "list": are_all_shown}[kind]
     return Operation(kind, query=Does(question, (elements,)), rising=elements if kind in sets else ())
 
@@ -62,6 +63,13 @@ def removal_of(kind, element):
     if kind == "list":
         return Operation("list", Does(mark_removed, (element,)), Does(is_inserted, (element,)))
     return Operation("lwwset", Does(take_out, (element,)), carries_stamp=True)
+
+
+def write_of(kind, value):
+    """A multi-value register's write has no clock. What it replaces follows from what its label sees."""
+    if kind == "mvregister":
+        return Operation(kind, Does(replace_writes, (value,)))
+    return Operation("register", Does(write, (value,)), carries_stamp=True)
 
 
 def tagged_removal_of(element, identifiers):
@@ -98,10 +106,11 @@ def operation_of(kind, fields):
     number = number_of(given[0])
     if len(given) == 1:
         expect(word != "after")
-        plain = {"write": ("register", write), "add": ("lwwset", put_in)}
         if word == "remove":
             return removal_of(kind, number)
-        return Operation(plain[word][0], Does(plain[word][1], (number,)), carries_stamp=True)
+        if word == "write":
+            return write_of(kind, number)
+        return Operation("lwwset", Does(put_in, (number,)), carries_stamp=True)
     expect(len(given) == 2 and word in ("add", "remove", "after"))
     if word == "after":
         return Operation("rga", Does(insert_after, (number, number_of(given[1]))), carries_stamp=True)

@@ -7,10 +7,10 @@ from itertools import permutations
 from typing import Callable, NamedTuple, Optional
 
 from list_order import elements_of, list_order_of
-from specification import START
+from specification import START, replace_writes
 
 # Kinds whose labels are tried in the order in which they were accepted. A violation of theirs is final.
-IN_EXECUTION_ORDER = ("counter", "orset", "list")
+IN_EXECUTION_ORDER = ("counter", "orset", "list", "mvregister")
 # Of at most this number of a list's elements all orders are tried.
 MOST_ENUMERATED = 5
 LOWEST_RANK = (0, 0)
@@ -49,6 +49,20 @@ class Label(NamedTuple):
 
 def rises(numbers):
     return all(low < high for low, high in zip(numbers, numbers[1:]))
+
+
+def competing_writes(numbers, labels):
+    """Those of these labels that no other one of them sees."""
+    return frozenset(it for it in numbers if not any(it in labels[other].sees for other in numbers))
+
+
+def rewritten(operation, number, sees, labels):
+    """The operation as the label of this number has it. A multi-value register's write names what it replaces: of the
+    writes that the label sees those that none of the others sees."""
+    if operation.kind != "mvregister" or not operation.update:
+        return operation
+    (value,) = operation.update.given
+    return operation._replace(update=Does(replace_writes, (competing_writes(sees, labels), number, value)))
 
 
 # When records hold: whether the named sequence is an RA-linearization.

@@ -9,12 +9,12 @@ from typing import NamedTuple, Optional
 
 from bodies import GREATEST_NUMBER, GREATEST_SIGNED, NotOfTheGrammar, expect, name_of, number_of, operation_of
 from judgement import IN_EXECUTION_ORDER, MOST_ENUMERATED, Label, Operation, cause_of, linearizes, named_labels
-from judgement import parts_of, rises, state_after
+from judgement import parts_of, rewritten, rises, state_after
 from specification import START
 
 # The kinds that the random histories and bytes draw from, and all that line 1 may name.
 KINDS = ("counter", "register", "lwwset", "orset", "rga")
-ALL_KINDS = (*KINDS, "list")
+ALL_KINDS = (*KINDS, "list", "mvregister")
 LONGEST_LINE = 1_048_576
 MOST_COMMANDS = 1_048_576
 # How many names line 2 has at most, by the form of line 1. With those that join later there are as many as RAH 2 names.
@@ -23,10 +23,11 @@ MOST_REPLICAS = MOST_NAMES["2"]
 
 
 class Monitor:
-    """What was accepted so far: the labels, and the numbers of the updates that each replica had."""
+    """What was accepted so far: the labels, and the numbers of the updates that each replica had. The judge says what
+    fails at a new label; without another one the named order is tried."""
 
-    def __init__(self, kind, names):
-        self.kind, self.names = kind, list(names)
+    def __init__(self, kind, names, judge=cause_of):
+        self.kind, self.names, self.judge = kind, list(names), judge
         self.labels, self.had = [], [set() for _ in names]
         self.fault, self.calls, self.refused = None, 0, 0
 
@@ -127,12 +128,12 @@ class Operate(NamedTuple):
 
     def accepted(self, monitor):
         replica, number = monitor.names.index(self.name), len(monitor.labels)
-        stamp = None if self.clock is None else (self.clock, replica)
-        label = Label(number, replica, self.operation, stamp, frozenset(monitor.had[replica]))
-        monitor.labels.append(label)
+        stamp, sees = None if self.clock is None else (self.clock, replica), frozenset(monitor.had[replica])
+        operation = rewritten(self.operation, number, sees, monitor.labels)
+        monitor.labels.append(Label(number, replica, operation, stamp, sees))
         if self.operation.update:
             monitor.had[replica].add(number)
-        cause = cause_of(monitor.kind, monitor.labels)
+        cause = monitor.judge(monitor.kind, monitor.labels)
         monitor.fault = f"no {number} {cause}" if cause else None
         return monitor.fault or f"ok {number}"
 

@@ -2,7 +2,8 @@
 
 A step takes a state and what its update has, and gives the state after it, or None where the update is not admitted. A
 question takes a state and what its query has, and gives a yes or a no. States: a number; a value or "none"; a set of
-elements; a set of pairs; a tuple of elements, each with whether a read shows it; a `ListState`.
+elements; a set of pairs; a tuple of elements, each with whether a read shows it; a `ListState`; a set of writes, each a
+label's number with its value.
 """
 from typing import NamedTuple, Optional
 
@@ -27,6 +28,7 @@ class ListState(NamedTuple):
 
 START = {"counter": 0, "register": "none", "lwwset": frozenset(), "orset": frozenset(), "rga": ((0, False),)}
 START["list"] = ListState()
+START["mvregister"] = frozenset()
 
 
 def add_one(state):
@@ -133,3 +135,15 @@ def are_some_shown(state, elements):
         and state.shown().issuperset(elements)
         and all(state.stands_before(*it) for it in zip(elements, elements[1:]))
     )
+
+
+# The step and the question of a multi-value register. A write replaces the writes that its replica observed.
+
+
+def replace_writes(state, over, number, value):
+    return {it for it in state if it[0] not in over} | {(number, value)}
+
+
+def are_the_values(state, values):
+    """Each value once, also where several writes have it."""
+    return {value for _, value in state} == set(values)
