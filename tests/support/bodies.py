@@ -2,10 +2,10 @@
 import re
 
 from judgement import Does, Operation
-from specification import add_one, are_all_shown, are_inserted, are_shown, are_some_shown, are_the_elements
-from specification import are_the_identifiers, are_the_paired_elements, are_the_values, hide, insert_after
-from specification import insert_between, is_inserted, is_the_state, mark_removed, put_in, put_pair_in
-from specification import replace_writes, take_one, take_out, take_pairs_out, write
+from specification import add_one, apply_update, are_all_shown, are_inserted, are_shown, are_some_shown
+from specification import are_the_elements, are_the_identifiers, are_the_paired_elements, are_the_values, hide
+from specification import insert_after, insert_between, is_inserted, is_its_answer, is_the_state, mark_removed, put_in
+from specification import put_pair_in, replace_writes, take_one, take_out, take_pairs_out, write
 
 GREATEST_NUMBER = 4_294_967_295
 GREATEST_SIGNED = 2_147_483_647
@@ -51,6 +51,8 @@ def read_of(kind, piece):
         return Operation(kind, query=Does(is_the_state, (signed_of(piece),)))
     if kind == "register":
         return Operation(kind, query=Does(is_the_state, (piece if piece == "none" else number_of(piece),)))
+    if kind == "any":
+        return Operation(kind, query=Does(is_its_answer, (number_of(piece),)))
     elements = list_of(piece)
     sets = {"lwwset": are_the_elements, "orset": are_the_paired_elements, "mvregister": are_the_values}
     question = {**sets, "rga": are_shown, "list": are_all_shown}[kind]
@@ -97,6 +99,9 @@ def operation_of(kind, fields):
     word, *given = fields
     if kind == "list" and word in ("insert", "part"):
         return list_operation_of(word, given)
+    if kind == "any" and word == "update":
+        expect(not given)
+        return Operation("any", Does(apply_update, ()))
     if word in ("inc", "dec"):
         expect(not given)
         return Operation("counter", Does(add_one if word == "inc" else take_one, ()))

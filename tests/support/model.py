@@ -14,7 +14,7 @@ from specification import START
 
 # The kinds that the random histories and bytes draw from, and all that line 1 may name.
 KINDS = ("counter", "register", "lwwset", "orset", "rga")
-ALL_KINDS = (*KINDS, "list", "mvregister")
+ALL_KINDS = (*KINDS, "list", "mvregister", "any")
 LONGEST_LINE = 1_048_576
 MOST_COMMANDS = 1_048_576
 # How many names line 2 has at most, by the form of line 1. With those that join later there are as many as RAH 2 names.

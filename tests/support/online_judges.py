@@ -5,15 +5,16 @@ In causal records a replica has of each other one the first updates, so a count 
 by another one if its place is below the other's count.
 """
 from collections import Counter
-from typing import NamedTuple
+from typing import NamedTuple, Optional
 
 
 class Update(NamedTuple):
-    """A replica's update: its place among those of the replica, what it wrote, and the counts of what it sees."""
+    """A replica's update: its place among those of the replica, what it wrote if it is a write, and the counts of what
+    it sees."""
 
     replica: int
     place: int
-    value: int
+    value: Optional[int]
     counts: Counter
 
     def sees(self, other):
@@ -30,7 +31,7 @@ class OnlineJudge:
     def joins(self, source):
         self.counts.append(Counter(self.counts[source]))
 
-    def issues(self, replica, number, value):
+    def issues(self, replica, number, value=None):
         counts = self.counts[replica]
         self.updates[number] = Update(replica, counts[replica], value, Counter(counts))
         counts[replica] += 1
@@ -51,7 +52,7 @@ class Siblings(OnlineJudge):
         super().joins(source)
         self.kept.append([*self.kept[source]])
 
-    def issues(self, replica, number, value):
+    def issues(self, replica, number, value=None):
         super().issues(replica, number, value)
         self.kept[replica] = [number]
 
@@ -62,3 +63,14 @@ class Siblings(OnlineJudge):
 
     def is_right(self, replica, answer):
         return list(answer) == sorted({self.updates[it].value for it in self.kept[replica]})
+
+
+class ReadTable(OnlineJudge):
+    """Of any type: what was read at each counts. The first read decides."""
+
+    def __init__(self, replicas):
+        super().__init__(replicas)
+        self.table = {}
+
+    def is_right(self, replica, answer):
+        return self.table.setdefault(frozenset(self.counts[replica].items()), answer) == answer

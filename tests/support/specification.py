@@ -3,7 +3,7 @@
 A step takes a state and what its update has, and gives the state after it, or None where the update is not admitted. A
 question takes a state and what its query has, and gives a yes or a no. States: a number; a value or "none"; a set of
 elements; a set of pairs; a tuple of elements, each with whether a read shows it; a `ListState`; a set of writes, each a
-label's number with its value.
+label's number with its value; an `AnyState`.
 """
 from typing import NamedTuple, Optional
 
@@ -26,9 +26,21 @@ class ListState(NamedTuple):
         return self.inserted - self.removed
 
 
+class AnyState(NamedTuple):
+    """The labels whose updates were applied to an object of any type, and what a read returns after each set of them.
+
+    The answers are the parameter of the specification and no step changes it. Without them (None) this is the free
+    specification, in which any answer is right.
+    """
+
+    answers: Optional[dict] = None
+    applied: frozenset = frozenset()
+
+
 START = {"counter": 0, "register": "none", "lwwset": frozenset(), "orset": frozenset(), "rga": ((0, False),)}
 START["list"] = ListState()
 START["mvregister"] = frozenset()
+START["any"] = AnyState()
 
 
 def add_one(state):
@@ -147,3 +159,14 @@ def replace_writes(state, over, number, value):
 def are_the_values(state, values):
     """Each value once, also where several writes have it."""
     return {value for _, value in state} == set(values)
+
+
+# The step and the question of any type.
+
+
+def apply_update(state, number):
+    return state._replace(applied=state.applied | {number})
+
+
+def is_its_answer(state, value):
+    return state.answers is None or state.answers.get(state.applied) == value
