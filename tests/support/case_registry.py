@@ -30,7 +30,7 @@ class Cases:
                 function(*given)
             except (AssertionError, OSError, subprocess.TimeoutExpired) as why:
                 failed += 1
-                print(function.__name__, *(it.name for it in given), f"{type(why).__name__} {why}")
+                print(function.__name__, *(getattr(it, "name", it) for it in given), f"{type(why).__name__} {why}")
         passed = len(self.registered) - failed
         print(f"{name}: {passed} passed, {failed + forgotten} failed")
         return 0 if self.registered and not failed + forgotten else 1

@@ -1,9 +1,8 @@
 """Small histories of each kind but list, made by a seed: so few labels that all sequences of them can be tried.
 
-Two of five histories are honest: one hidden order of all updates explains each read. In the others a read has an order
-of its own in some histories, and now and then a line is a lie: a wrong value, a view that another replica has, an
-element that exists or does not, a second delivery, a line to be rejected or, where the text is asked for, none of the
-grammar.
+Two of five histories are honest: one hidden order of all updates explains each read. In the others each read has an
+order of its own, or now and then a line is a lie, or both: a wrong value, a view that another replica has, an element
+that exists or does not, a second delivery, a line to be rejected or, where the text is asked for, none of the grammar.
 """
 from judgement import cause_of
 from model import ALL_KINDS, Monitor, NotOfTheGrammar, command_of
@@ -15,7 +14,13 @@ NAMES = ["a", "b", "c", "update", "read"]
 # odd.
 LIES, ODDITIES = [2, 3, 5, 1_000], [6, 20, 1_000]
 COUNTS = [2, 3, 4, 5, 6, 6, 7, 7]
+# How many lines a history has at most, if that is not less than four for each label, and how many replicas.
 MOST_LINES, MOST_REPLICAS = 30, 4
+# Kinds of which an order decides what is read.
+ORDERED = ("register", "lwwset", "rga")
+# How often a line is a delivery, an update and a read: in the first half of a history, and in the second one. Where the
+# updates come first there are several reads of what was done concurrently.
+TURNS = [((5, 4, 3), (5, 4, 3)), ((1, 6, 0), (6, 0, 3)), ((3, 6, 0), (8, 0, 3))]
 # Lines that most kinds reject, and lines that are none of the grammar in the kinds that this file alone draws.
 OTHERS = ["inc", "dec @0", "write 3 @4", "add 4 @9", "add 3 #7", "remove 3 #2,1", "after 0 5 @3", "remove 2"]
 BROKEN = ["a write", "a write -", "a write none", "a write 1,2", "a write 1 2", "a write 01", "a write #1", "write 1"]
@@ -42,13 +47,15 @@ class SmallAuthor:
         self.monitor = Monitor(kind, self.first_names, judge)
         self.names, self.labels = self.monitor.names, self.monitor.labels
         self.is_honest = chance.below(5) < 2
-        self.diverges = not self.is_honest and chance.once_in(2)
+        self.diverges = not self.is_honest and kind in ORDERED and chance.below(3) > 0
         self.lies, self.oddities = chance.one_of(LIES), chance.one_of(ODDITIES)
+        self.turns = chance.one_of(TURNS)
         # The numbers of all updates in the hidden order, and what a read of each set of updates is of the kind `any`.
         self.order, self.answers = [], {}
 
     def lies_now(self):
-        return not self.is_honest and self.chance.once_in(self.lies)
+        """Where reads diverge, half of the histories have no lie."""
+        return not self.is_honest and not (self.diverges and self.lies < 4) and self.chance.once_in(self.lies)
 
     # What the replicas have.
 
@@ -107,12 +114,18 @@ class SmallAuthor:
 
     def rga_update(self, replica):
         has = [it for it, _ in self.state(replica)]
-        elements, unused = has, 1 + len(self.labels)
+        elements, number = has, 1 + len(self.labels)
         if self.lies_now():
-            elements, unused = [0, *range(1, 2 + len(self.labels))], self.chance.one_of([unused, unused, *has])
+            elements, number = self.other_elements(has), self.chance.one_of([number] * 8 + has)
         if len(elements) > 1 and self.chance.once_in(4):
             return f"remove {self.chance.one_of(elements if elements != has else has[1:])}"
-        return f"after {self.chance.one_of([0, *elements])} {unused} @{self.clock(replica)}"
+        return f"after {self.chance.one_of([0, *elements])} {number} @{self.clock(replica)}"
+
+    def other_elements(self, has):
+        """Mostly the elements of a list that others have inserted, or one that comes later or never, or the root."""
+        given = [it.operation.update.given for it in self.labels if it.operation.update]
+        others = [it[1] for it in given if len(it) == 2 and it[1] not in has]
+        return self.chance.one_of([others] * 6 + [[len(self.labels) + 1 + self.chance.below(2)], [0, 0]])
 
     def mvregister_update(self, replica):
         return f"write {self.value()}"
@@ -161,7 +174,7 @@ class SmallAuthor:
         lacking = [it for it in self.labels if it.operation.update and it.number not in had]
         ready = [it for it in lacking if it.sees <= had]
         if not lacking:
-            return self.chance.one_of([self.update, self.read])(replica)
+            return self.chance.one_of([self.update, self.read, self.read])(replica)
         return f"got {self.chance.one_of(lacking if self.lies_now() else ready).number}"
 
     def odd_line(self, replica):
@@ -182,12 +195,13 @@ class SmallAuthor:
             return self.odd_line(replica)
         if self.form == "2" and len(self.names) < MOST_REPLICAS and chance.once_in(10):
             return f"join n{len(self.names)} {self.names[replica]}"
-        act = chance.one_of([self.delivery] * 5 + [self.update] * 4 + [self.read] * 3)
+        acts, turns = (self.delivery, self.update, self.read), self.turns[2 * len(self.labels) >= self.count]
+        act = chance.one_of([act for act, often in zip(acts, turns) for _ in range(often)])
         return f"{self.names[replica]} {act(replica)}"
 
     def lines(self):
         """The commands. Behind a violation up to two are left, which are answered alike."""
-        lines = MOST_LINES
+        lines = max(MOST_LINES, 4 * self.count)
         while lines > 0 and len(self.labels) < self.count:
             line = self.line()
             yield line

@@ -9,19 +9,24 @@ from itertools import permutations
 from judgement import first_state, is_answered, linearizes, must_precede, parts_of
 
 
-class Search:
-    """The search for a sequence of the parts of these labels, at a parameter of the specification if it has one."""
+def is_visible_to(early, late):
+    return early.number in late.sees
 
-    def __init__(self, kind, labels, parameter=None):
+
+class Search:
+    """The search for a sequence of the parts of these labels that extends an order of labels, at a parameter of the
+    specification if it has one."""
+
+    def __init__(self, kind, labels, parameter=None, precedes=must_precede):
         self.kind, self.labels, self.parameter = kind, labels, parameter
         self.parts = [part for label in labels for part in parts_of(label)]
-        self.before = {part: self.predecessors(part) for part in self.parts}
+        self.before = {part: self.predecessors(part, precedes) for part in self.parts}
 
-    def predecessors(self, part):
+    def predecessors(self, part, precedes):
         """The parts that must precede this one."""
         number, half = part
         late = self.labels[number]
-        earlier = {it for early in self.labels if must_precede(early, late) for it in parts_of(early)}
+        earlier = {it for early in self.labels if precedes(early, late) for it in parts_of(early)}
         return earlier | {(number, "query")} if half == "update" else earlier
 
     def found(self):
@@ -56,6 +61,11 @@ class Search:
 def explaining_sequence(kind, labels, parameter=None):
     """The first sequence of the parts that is an RA-linearization of the labels, or None where none is."""
     return Search(kind, labels, parameter).found() if labels else ()
+
+
+def is_explained_by_visibility_alone(kind, labels, parameter=None):
+    """The same where a sequence need not keep the order in which a replica made its labels."""
+    return Search(kind, labels, parameter, is_visible_to).found() is not None
 
 
 def is_explained_literally(kind, labels, parameter=None):
