@@ -14,7 +14,7 @@ const SHOWN_LINES = 16;
 const HEADER_LINES = 2;
 // The largest number of suggested changes in a message.
 const SHOWN_CHANGES = 5;
-const MEANINGS = {
+export const MEANINGS = {
   order: "its clock is not greater than each clock that it sees",
   update: "it cannot be applied at its position in the order",
   query: "its result does not follow from the updates that it sees",

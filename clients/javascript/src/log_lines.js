@@ -4,7 +4,7 @@ import { inspect } from "node:util";
 import { OPERATIONS } from "./operations.js";
 
 const KINDS = Object.keys(OPERATIONS);
-const STANDARD_INPUT = "-";
+export const STANDARD_INPUT = "-";
 export const DELIVER = "deliver";
 export const READ = "read";
 // The types of a completion or an invocation in a Jepsen history.

@@ -8,15 +8,15 @@ import { MonitorExited } from "./errors.js";
 // The program inside an installed package, as tools/package puts it there.
 const INSTALLED = fileURLToPath(new URL("../installed/bin/ra_monitor", import.meta.url));
 const REPOSITORY = fileURLToPath(new URL("../../..", import.meta.url));
-const OWN_PROGRAM = join(REPOSITORY, "ra_monitor");
-const CHECK_PROGRAM = join(REPOSITORY, "crates", "ra_check_cli", "out", "ra_check_cli");
+export const OWN_PROGRAM = join(REPOSITORY, "ra_monitor");
+export const CHECK_PROGRAM = join(REPOSITORY, "crates", "ra_check_cli", "out", "ra_check_cli");
 export const EXPLAIN_PROGRAM = join(REPOSITORY, "crates", "ra_explain_cli", "out", "ra_explain_cli");
 // The longest time that an explanation may take, in milliseconds.
 const EXPLAIN_TIMEOUT = 60_000;
 // The exit statuses of a run that read its whole input: a pass, a violation, and a pass with a rejected report.
 export const COMPLETE = [0, 1, 3];
 // The standard error of a run that could not parse its input.
-const SYNTAX_FAULT = /^line \d+: (syntax|truncated|too long|full)\n?$/;
+export const SYNTAX_FAULT = /^line \d+: (syntax|truncated|too long|full)\n?$/;
 
 /**
  * Returns the path of the given program, else of RA_MONITOR, else of the one that is found without being named. That is
@@ -148,13 +148,14 @@ export function explainPage(program, text) {
 }
 
 /**
- * Runs `ra_monitor explain`, without output if the program cannot explain. The repository's own program is not built
- * for this, since that takes minutes.
+ * Runs `ra_monitor explain` on a text or an open file, without output if the program cannot explain. The repository's
+ * own program is not built for this, since that takes minutes.
  */
-function runExplain(program, text, ...options) {
+export function runExplain(program, text, ...options) {
   const path = [OWN_PROGRAM, CHECK_PROGRAM].includes(realPathOf(program)) ? EXPLAIN_PROGRAM : program;
-  const settings = { input: text, encoding: "utf8", maxBuffer: 1 << 30, timeout: EXPLAIN_TIMEOUT };
-  return spawnSync(path, ["explain", ...options], settings);
+  const source = typeof text === "number" ? { stdio: [text, "pipe", "pipe"] } : { input: text };
+  const settings = { encoding: "utf8", maxBuffer: 1 << 30, timeout: EXPLAIN_TIMEOUT };
+  return spawnSync(path, ["explain", ...options], { ...source, ...settings });
 }
 
 function realPathOf(program) {

@@ -1,4 +1,4 @@
-"""The command `yehatu`: checks logs, shows a failure, and runs a stored failure again."""
+"""The command `yehatu`: checks logs, watches a history, shows a failure, and runs a stored failure again."""
 import argparse
 import importlib
 import sys
@@ -10,12 +10,15 @@ from . import program as programs
 from .errors import MonitorExited, ReportFailed
 from .log_check import check_logs, describe
 from .log_history import Verdict
-from .log_lines import CannotJudge, LogFault
+from .log_lines import STANDARD_INPUT, CannotJudge, LogFault
 from .operations import OPERATIONS
 from .random_runs import replay
+from .watch import Options, watch
 
 PASS, VIOLATION, NO_VERDICT = 0, 1, 2
 EPILOG = "exit status: 0 pass, 1 violation, 2 no verdict (standard error says why)"
+# The shortest and the longest time between two status lines, in seconds.
+EVERY = (0.1, 86_400)
 
 
 def main(arguments: Optional[List[str]] = None) -> int:
@@ -48,12 +51,32 @@ def _parser() -> argparse.ArgumentParser:
         command.set_defaults(context=page, page=None)
         if page:
             command.add_argument("--page", metavar="FILE", help="write a page about the first violation")
+    _add_watch(commands)
     command = _command(commands, "demo", "test a register with a bug at random, and show the shrunk failure", _demo)
     command.add_argument("--page", metavar="FILE", default="yehatu_demo.html", help="write the page here [%(default)s]")
     command = _command(commands, "replay", "run a stored failure of check_random again", _replay)
     command.add_argument("replica", metavar="MODULE:CLASS", help="what makes a replica, such as register:Register")
     command.add_argument("failure", metavar="FILE", help="the file of steps that check_random wrote")
     return parser
+
+
+def _add_watch(commands: Any) -> None:
+    summary = "pass a history in the text format to the monitor as it comes, and show its status"
+    command = _command(commands, "watch", summary, _watch)
+    command.epilog = "exit status: 0 pass, 1 violation, 2 no verdict (standard error says why), 3 pass with refusals"
+    command.add_argument("history", nargs="?", metavar="FILE", help="the history; without it, standard input")
+    command.add_argument("--page", metavar="FILE", help="write a page about the history at the end")
+    command.add_argument("--every", metavar="SECONDS", type=_seconds, default=1.0, help="show the status as often [1]")
+    command.add_argument("--follow", action="store_true", help="wait for more at the end of FILE, which grows")
+    command.add_argument("--replies", action="store_true", help="print the reply to each line, as `ra_monitor check`")
+    command.add_argument("--stop", action="store_true", help="end at the first violation")
+
+
+def _seconds(text: str) -> float:
+    seconds = float(text)
+    if EVERY[0] <= seconds <= EVERY[1]:
+        return seconds
+    raise argparse.ArgumentTypeError(f"expected a number of seconds from {EVERY[0]} to {EVERY[1]}, not {text}")
 
 
 def _command(commands: Any, name: str, summary: str, run: Any) -> argparse.ArgumentParser:
@@ -75,6 +98,18 @@ def _check(chosen: argparse.Namespace) -> int:
     if Verdict.VIOLATION in verdicts:
         return VIOLATION
     return PASS if verdicts == {Verdict.PASS} else NO_VERDICT
+
+
+def _watch(chosen: argparse.Namespace) -> int:
+    path = None if chosen.history == STANDARD_INPUT else chosen.history
+    if chosen.follow and path is None:
+        raise _Unusable("--follow needs a FILE: standard input is read until it ends")
+    if path is None and sys.stdin is None:
+        raise _Unusable("standard input is closed: expected a history")
+    if chosen.page is not None:
+        # It is written at the end, so that a path that cannot be written has to be found before.
+        Path(chosen.page).open("ab").close()
+    return watch(Options(path, chosen.page, chosen.every, chosen.follow, chosen.replies, chosen.stop))
 
 
 def _write_page(path: str, history: bytes) -> None:

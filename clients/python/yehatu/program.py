@@ -134,7 +134,7 @@ def check_text(program: str, text: bytes) -> CheckResult:
 
 def explain_violation(program: Optional[str], text: str) -> Optional[Dict[str, Any]]:
     """Returns the explanation of a violation as a JSON object, or None if there is none."""
-    ran = None if program is None else _run_explain(program, text.encode(), "--json")
+    ran = None if program is None else run_explain(program, text.encode(), "--json")
     if ran is None or ran.returncode != 1:
         return None
     try:
@@ -146,7 +146,7 @@ def explain_violation(program: Optional[str], text: str) -> Optional[Dict[str, A
 
 def explain_page(program: str, text: bytes) -> bytes:
     """Returns the page of `explain --html` about a history, or nothing if the program cannot explain."""
-    ran = _run_explain(program, text, "--html")
+    ran = run_explain(program, text, "--html")
     return ran.stdout if ran is not None and ran.returncode in COMPLETE else b""
 
 
@@ -155,21 +155,22 @@ def describe_exit(program: str, status: Optional[int], stderr: bytes, text: byte
     printed = stderr.decode("utf-8", "replace").strip()
     quoted = repr(printed) if printed else "empty"
     description = f"{program} exited with status {status}; its standard error is {quoted}"
-    ran = _run_explain(program, text) if status == 2 and SYNTAX_FAULT.fullmatch(stderr) else None
+    ran = run_explain(program, text) if status == 2 and SYNTAX_FAULT.fullmatch(stderr) else None
     page = ran.stdout.decode("utf-8", "replace").strip() if ran and ran.returncode == 2 else ""
     return f"{description}\n\n{page}" if page else description
 
 
-def _run_explain(program: str, text: bytes, *options: str) -> Optional["subprocess.CompletedProcess[bytes]"]:
-    """Runs `ra_monitor explain`. Returns None if the program cannot explain.
+def run_explain(
+    program: str, text: Union[bytes, IO[bytes]], *options: str
+) -> Optional["subprocess.CompletedProcess[bytes]"]:
+    """Runs `ra_monitor explain` on a text or a file. Returns None if the program cannot explain.
 
     The repository's own program is not built for this, since that takes minutes.
     """
     if Path(program).resolve() in (OWN_PROGRAM, CHECK_PROGRAM):
         program = str(EXPLAIN_PROGRAM)
+    source: Dict[str, Any] = {"input" if isinstance(text, bytes) else "stdin": text}
     try:
-        return subprocess.run(
-            [program, "explain", *options], input=text, capture_output=True, timeout=EXPLAIN_TIMEOUT
-        )
+        return subprocess.run([program, "explain", *options], capture_output=True, timeout=EXPLAIN_TIMEOUT, **source)
     except (OSError, subprocess.TimeoutExpired):
         return None
