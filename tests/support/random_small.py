@@ -162,7 +162,8 @@ class SmallAuthor:
             at = self.chance.below(len(numbers) + 1)
             early, one, late = numbers[:at], numbers[at : at + 1], numbers[at + 1 :]
             swapped, more = early + late[:1] + one + late[1:], early + [self.value()] + one + late
-            numbers = self.chance.one_of([early + late, early + late, swapped, swapped, more, early + one + one + late])
+            others = [early + late, swapped, more, early + one + one + late]
+            numbers = self.chance.one_of(others + ([swapped] * 3 + [numbers[::-1]] if self.kind == "rga" else []))
             is_sorted = self.kind != "rga" and self.chance.below(4)
             numbers = sorted({*numbers}) if is_sorted else numbers
         return written(numbers)
