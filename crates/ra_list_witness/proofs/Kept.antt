@@ -1,0 +1,132 @@
+-- The representation invariant after each operation.
+use Rattle.std.proofs.Common.{◌≡◌, ℕ, ◌+◌, ◌-◌, ◌<◌, ◌≤◌, List, [], ◌∷◌, ◌++◌, length, take, set, sym, ap, ◌∙◌, subst, inl, inr, arith}
+use Rattle.std.specs.Prelude.{Contains, ◌==◌, ◌&&◌, if◌then◌else◌, Option, Some, None, Result, Ok, Err, IfOk, OnErr, MatchOption}
+use Rattle.std.specs.List.Sorted.{IsPermutation}
+use Rattle.std.proofs.lemmas.Bool.{cases_eq, cond-true, cond-false, eq-eqb, ne_eqb}
+use Rattle.std.proofs.lemmas.List.{length-set, length_push, get_or-set_same, get_or-set_other, take_at}
+use Rattle.std.proofs.lemmas.List.Elements.{Contains-push_cases}
+use Rattle.ra_list_order.specs.declared.edge.Edge.{Edge}
+use Rattle.ra_list_order.specs.Edges.{IsCycle}
+use Rattle.ra_list_edges.specs.Pairs.{AddsSome, AddsPairs, with_pairs}
+use Rattle.ra_list_replica.specs.declared.mark.Mark.{Mark}
+use Rattle.ra_list_replica.specs.declared.mark.Mark.TheVariants.{Missing, Shown}
+use Rattle.ra_list_replica.specs.View.{View, mark_at}
+use Rattle.ra_list_witness.specs.Adjacent.{HasPairs}
+use Rattle.ra_list_witness.specs.ListWitness.{no_view, view_at, mark_of, IsMarked, IsLastRead, ListWitnessKept}
+use Rattle.ra_list_witness.proofs.AdjacentPairs.{pairs_after}
+use Rattle.ra_list_witness.proofs.Views.{view_set, last_wider, last_with}
+
+-- with another view of one replica
+pub kept_set : (elements elements' : List ℕ) (views : List View) (order order' : List ℕ) (edges edges' : List Edge) (at : ℕ)
+    (view : View) → ListWitnessKept elements views order edges → at < length views → length elements ≤ length elements'
+    → ((y : ℕ) → Contains elements' y → Contains order' y)
+    → ((last : List ℕ) → IsLastRead elements edges last → IsLastRead elements' edges' last)
+    → ((n : ℕ) → length elements' ≤ n → mark_at view.marks n ≡ Missing) → IsLastRead elements' edges' view.last
+    → ListWitnessKept elements' (set views at view) order' edges'
+kept_set elements elements' views order order' edges edges' at view kept there long ordered wide beyond last = record {
+  ordered = ordered;
+  beyond = λ replica n past. view_set (λ v. mark_at v.marks n ≡ Missing) views at view replica there (λ is. beyond n past)
+      (kept.beyond replica n (omega arith));
+  lasts = λ replica. view_set (λ v. IsLastRead elements' edges' v.last) views at view replica there (λ is. last)
+      (wide (view_at views replica).last (kept.lasts replica));
+}
+
+-- with the same views
+pub kept_views : (elements : List ℕ) (views : List View) (order order' : List ℕ) (edges edges' : List Edge)
+    → ListWitnessKept elements views order edges → ((y : ℕ) → Contains order y → Contains order' y)
+    → ((xs : List ℕ) → HasPairs edges xs → HasPairs edges' xs) → ListWitnessKept elements views order' edges'
+kept_views elements views order order' edges edges' kept ordered pairs = record {
+  ordered = λ y there. ordered y (kept.ordered y there);
+  beyond = kept.beyond;
+  lasts = λ replica. last_with elements edges edges' (view_at views replica).last pairs (kept.lasts replica);
+}
+
+-- the marks after one is set
+pub mark_set : (marks : List Mark) (number n : ℕ) (mark : Mark) → number < length marks
+    → mark_at (set marks number mark) n ≡ (if n == number then mark else mark_at marks n)
+mark_set marks number n mark room = elim (cases_eq n number) [
+  | inl same ↦ ap (mark_at (set marks number mark)) same ∙ get_or-set_same marks number mark Missing room
+      ∙ sym (cond-true (n == number) mark (mark_at marks n) (eq-eqb n number same))
+  | inr apart ↦ get_or-set_other marks number n mark Missing apart
+      ∙ sym (cond-false (n == number) mark (mark_at marks n) (ne_eqb n number apart))
+]
+
+-- a replica's view, whose marks are those of the old one and the one of an element that it shows
+pub record IsShownIn (old : View) (number : ℕ) (new : View) : Type 0 where
+  pub reserved : List Mark
+  pub room : number < length reserved
+  pub same : (n : ℕ) → mark_at reserved n ≡ mark_at old.marks n
+  pub marks : new.marks ≡ set reserved number Shown
+  pub last : new.last ≡ old.last
+
+shown_marks : (old : View) (number : ℕ) (new : View) (n : ℕ) → IsShownIn old number new
+    → mark_at new.marks n ≡ (if n == number then Shown else mark_at old.marks n)
+shown_marks old number new n is =
+    ap (λ ms. mark_at ms n) is.marks ∙ mark_set is.reserved number n Shown is.room
+    ∙ ap (λ m. if n == number then Shown else m) (is.same n)
+
+pub kept_by_insert : (elements : List ℕ) (views : List View) (order order' : List ℕ) (edges edges' : List Edge) (at x : ℕ)
+    (view : View) (label : ℕ) (list : List ℕ) → ListWitnessKept elements views order edges → at < length views
+    → IsShownIn (view_at views at) (length elements) view → ((y : ℕ) → Contains order y → Contains order' y)
+    → Contains order' x → AddsSome label list edges edges'
+    → ListWitnessKept (elements ++ x ∷ []) (set views at view) order' edges'
+kept_by_insert elements views order order' edges edges' at x view label list kept there shown ordered x_there adds =
+    let wide : (last : List ℕ) → IsLastRead elements edges last → IsLastRead (elements ++ x ∷ []) edges' last =
+    λ last read. last_wider elements (x ∷ []) edges edges' last (λ xs. pairs_after label list edges edges' xs adds) read in
+    kept_set elements (elements ++ x ∷ []) views order order' edges edges' at view kept there
+    (omega (arith, length_push elements x))
+    (λ y y_there. elim (Contains-push_cases elements x y y_there) [
+      | inl before ↦ ordered y (kept.ordered y before)
+      | inr last ↦ subst (Contains order') last x_there
+    ])
+    wide
+    (λ n past. shown_marks (view_at views at) (length elements) view n shown
+    ∙ cond-false (n == length elements) Shown (mark_of views at n)
+    (ne_eqb n (length elements) (λ same. absurd (omega (arith, same, past, length_push elements x))))
+    ∙ kept.beyond at n (omega (arith, past, length_push elements x)))
+    (subst (IsLastRead (elements ++ x ∷ []) edges') (sym shown.last) (wide (view_at views at).last (kept.lasts at)))
+
+-- after a rejected insertion
+pub kept_by_rejection : (elements elements' : List ℕ) (views : List View) (order order' : List ℕ) (edges edges' : List Edge)
+    (at : ℕ) (view : View) → ListWitnessKept elements views order edges → at < length views → elements' ≡ elements
+    → edges' ≡ edges → ((n : ℕ) → mark_at view.marks n ≡ mark_of views at n) → view.last ≡ (view_at views at).last
+    → ((y : ℕ) → Contains order y → Contains order' y)
+    → ListWitnessKept elements' (set views at view) order' edges'
+kept_by_rejection elements elements' views order order' edges edges' at view kept there same_elements same_edges marks last ordered =
+    subst (λ xs. ListWitnessKept xs (set views at view) order' edges') (sym same_elements)
+    (subst (λ es. ListWitnessKept elements (set views at view) order' es) (sym same_edges)
+    (kept_set elements elements views order order' edges edges at view kept there (omega arith)
+    (λ y y_there. ordered y (kept.ordered y y_there)) (λ xs read. read)
+    (λ n past. marks n ∙ kept.beyond at n past)
+    (subst (IsLastRead elements edges) (sym last) (kept.lasts at))))
+
+pub taken_back : (elements more : List ℕ) (x : ℕ) → more ≡ elements ++ x ∷ [] → take (length more - 1) more ≡ elements
+taken_back elements more x is =
+    ap (λ xs. take (length xs - 1) xs) is
+    ∙ take_at elements (x ∷ []) (length (elements ++ x ∷ []) - 1) (omega (arith, length_push elements x))
+
+-- the marks of all replicas after one shows an element
+pub marked_by_insert : (views : List View) (at number : ℕ) (view : View) → at < length views
+    → IsShownIn (view_at views at) number view → IsMarked views at number Shown (set views at view)
+marked_by_insert views at number view there shown = record {
+  as_many = length-set views at view;
+  each = λ replica n. elim (cases_eq replica at) [
+    | inl same ↦ ap (λ v. mark_at (view_at (set views at view) v).marks n) same
+        ∙ ap (λ v. mark_at v.marks n) (get_or-set_same views at view no_view there)
+        ∙ shown_marks (view_at views at) number view n shown
+        ∙ ap (λ r. if n == number then Shown else mark_of views r n) (sym same)
+        ∙ ap (λ b. if b && n == number then Shown else mark_of views replica n) (sym (eq-eqb replica at same))
+    | inr apart ↦ ap (λ v. mark_at v.marks n) (get_or-set_other views at replica view no_view apart)
+        ∙ ap (λ b. if b && n == number then Shown else mark_of views replica n) (sym (ne_eqb replica at apart))
+  ];
+}
+
+-- the edges after the call of `add_read` or `add_insertion`, whatever it returned
+pub grown : {T E : Type 0} (items : T → List Edge) (r : Result (Option T) E) (label : ℕ) (list : List ℕ)
+    (old new : List Edge)
+    → IfOk r (λ found. MatchOption found (AddsPairs label list old new)
+    (λ cycle. (new ≡ old) × IsCycle (with_pairs label list old) (items cycle))) → OnErr r (new ≡ old)
+    → (xs : List ℕ) → HasPairs old xs → HasPairs new xs
+grown items (Ok None) label list old new answer failed xs has = pairs_after label list old new xs answer.some has
+grown items (Ok (Some cycle)) label list old new answer failed xs has = subst (λ es. HasPairs es xs) (sym answer.0) has
+grown items (Err e) label list old new answer failed xs has = subst (λ es. HasPairs es xs) (sym failed) has

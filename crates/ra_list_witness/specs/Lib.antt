@@ -1,0 +1,3 @@
+pub mod Adjacent
+pub mod Causes
+pub mod ListWitness

@@ -1,0 +1,475 @@
+//! The witness of one list.
+ghost use Rattle.std.specs.Prelude.{◌≡◌, ℕ, ◌+◌, ◌-◌, ◌<◌, ◌≤◌, ◌++◌, ◌∷◌, [], length, Contains, IsTrue, ◌↔◌, IfOk, OnOk, OnErr, MatchOption, MatchResult};
+ghost use Rattle.std.specs.List.{slice_get};
+ghost use Rattle.ra_list_order.specs.Edges.{IsCycle};
+ghost use Rattle.ra_list_edges.specs.Insertion.{neighborhood};
+ghost use Rattle.ra_list_edges.specs.Pairs.{AddsPairs, with_pairs};
+ghost use Rattle.ra_list_replica.specs.declared.mark.Mark.TheVariants as marks;
+ghost use Rattle.ra_list_replica.specs.Numbers.{AreNumbersOf};
+ghost use Rattle.ra_list_replica.specs.View.{IsPart, IsRead};
+ghost use Rattle.ra_list_replica.specs.Listing.{AreAsLast};
+ghost use Rattle.ra_list_witness.specs.ListWitness.{view_at, mark_of, AreSameMarks, IsMarked};
+ghost use Rattle.ra_list_witness.specs.Causes.{IsHadAs, CanInsert, IsCauseAt, IsCauseOfNeighbor, IsCauseOfInsertion, first_cause};
+
+use ra_labels::{Cause, NoMemory};
+use ra_list_edges::{Insertion, add_insertion, add_read};
+use ra_list_order::{Edge, ListOrder};
+use ra_list_replica::{ElementNumbers, Listed, Mark, ReplicaView};
+use std::alloc::Global;
+use std::marker::Model;
+
+/// The elements of a list, what each replica has of them, and an order that extends the edges of all operations.
+#[derive(Drop)]
+pub struct ListWitness {
+    /// The elements by number, in the order of their insertion.
+    numbers: ElementNumbers,
+    /// The view of each replica.
+    views: Vec<ReplicaView>,
+    /// The kept order and its edges.
+    order: ListOrder,
+}
+
+impl Model for ListWitness {
+    ghost use Rattle.ra_list_witness.specs.ListWitness.{ListWitness, ListWitnessKept};
+
+    ghost Value = { ListWitness };
+
+    ghost view = { λ a. record {
+      elements = a.numbers;
+      views = a.views.items;
+      order = a.order.order;
+      edges = a.order.edges;
+    } };
+
+    ghost invariant = { λ a. ListWitnessKept a.numbers a.views.items a.order.order a.order.edges };
+}
+
+impl ListWitness {
+    /// Creates the witness of an empty list, with the given number of replicas.
+    ///
+    /// # Errors
+    ///
+    /// `NoMemory` if allocation fails.
+    ///
+    /// # Complexity
+    ///
+    /// O(r), where `r` is the number of replicas.
+    pub fn new(alloc: Global, replicas: u8) -> Result<ListWitness, NoMemory>
+        // There are no elements.
+        ensures elements { IfOk result (λ witness. witness.elements ≡ []) }
+        // There are no edges.
+        ensures edges { IfOk result (λ witness. witness.edges ≡ []) }
+        // Each replica has a view.
+        ensures views { IfOk result (λ witness. length witness.views ≡ replicas) }
+        // No replica has an element.
+        ensures marks { IfOk result (λ witness. (replica number : ℕ)
+            → mark_of witness.views replica number ≡ marks.Missing) }
+    {
+        let mut views = Vec::with_capacity(alloc, replicas as usize)?;
+        for _ in 0..replicas {
+            views.push(ReplicaView::new(alloc))?;
+        }
+        Ok(ListWitness {
+            numbers: ElementNumbers::new(alloc),
+            views,
+            order: ListOrder::new(alloc),
+        })
+    }
+
+    /// Returns the number of the element if the replica has it, shown or removed.
+    ///
+    /// # Errors
+    ///
+    /// `Update` if the element was never inserted, `Query` if its insertion was not delivered to the replica.
+    ///
+    /// # Complexity
+    ///
+    /// O(log n) with `n` elements.
+    pub fn find(&self, replica: u8, element: u32) -> Result<u32, Cause>
+        // The replica has a view.
+        requires { replica < length self.now.views }
+        // The result is the element's number, and the replica has the element; or it is the cause.
+        ensures { let marks = (view_at self.now.views replica).marks in
+            MatchResult result (IsHadAs self.now.elements marks element)
+            (IsCauseAt self.now.elements marks element) }
+    {
+        let Some(number) = self.numbers.number_of(element) else {
+            return Err(Cause::Update);
+        };
+        match self.views[replica as usize].mark(number) {
+            Mark::Missing => Err(Cause::Query),
+            Mark::Shown | Mark::Removed => Ok(number),
+        }
+    }
+
+    /// Returns the reason for which an insertion at the replica fails, apart from its edges, or `None` if there is
+    /// none: `Update` if the element is 0 or was inserted before, or a neighbour never was; else `Query` if a neighbour
+    /// was not delivered to the replica.
+    ///
+    /// # Complexity
+    ///
+    /// O(log n) with `n` elements.
+    pub fn cause_of_insertion(&self, replica: u8, insertion: Insertion) -> Option<Cause>
+        // The replica has a view.
+        requires { replica < length self.now.views }
+        // The result is the first reason that applies, or `None` if none does.
+        ensures { IsCauseOfInsertion self.now.elements (view_at self.now.views replica).marks insertion result }
+    {
+        if insertion.element == 0 || self.numbers.contains(insertion.element) {
+            return Some(Cause::Update);
+        }
+        let left = self.cause_of_neighbor(replica, insertion.left);
+        let right = self.cause_of_neighbor(replica, insertion.right);
+        first_cause(left, right)
+    }
+
+    // Returns the reason for which an insertion at the replica cannot name this neighbour, or `None` if it can.
+    fn cause_of_neighbor(&self, replica: u8, neighbor: u32) -> Option<Cause>
+        requires { replica < length self.now.views }
+        ensures { IsCauseOfNeighbor self.now.elements (view_at self.now.views replica).marks neighbor result }
+    {
+        if neighbor == 0 {
+            return None;
+        }
+        match self.find(replica, neighbor) {
+            Ok(_) => None,
+            Err(cause) => Some(cause),
+        }
+    }
+
+    /// Inserts a new element, which the replica then shows, and returns `None`; or returns a cycle of its edges and the
+    /// earlier ones. After a cycle nothing is changed but the kept order.
+    ///
+    /// # Errors
+    ///
+    /// `NoMemory` if allocation fails; nothing is changed but the kept order.
+    ///
+    /// # Complexity
+    ///
+    /// O(log n) with `n` elements, amortized, and `ra_list_edges::add_insertion`.
+    pub fn insert(
+        &mut self,
+        alloc: Global,
+        replica: u8,
+        insertion: Insertion,
+        label: u32,
+    ) -> Result<Option<Vec<Edge>>, NoMemory>
+        // The replica has a view.
+        requires replica { replica < length self.old.views }
+        // The element is new and its neighbours are not.
+        requires new { CanInsert self.old.elements insertion }
+        // The next number fits 32 bits.
+        requires few { length self.old.elements < 4294967295 }
+        // The element has the next number, unless the result is a cycle.
+        ensures elements { IfOk result (λ found. MatchOption found
+            (self.new.elements ≡ self.old.elements ++ insertion.element ∷ [])
+            (λ cycle. self.new.elements ≡ self.old.elements)) }
+        // The replica shows the element, unless the result is a cycle; the other marks are unchanged.
+        ensures marks { IfOk result (λ found. MatchOption found
+            (IsMarked self.old.views replica (length self.old.elements) marks.Shown self.new.views)
+            (λ cycle. AreSameMarks self.old.views self.new.views)) }
+        // All edges are added; or the result is a cycle, and the edges are unchanged.
+        ensures edges { IfOk result (λ found. MatchOption found
+            (AddsPairs label (neighborhood insertion) self.old.edges self.new.edges)
+            (λ cycle. (self.new.edges ≡ self.old.edges)
+            × IsCycle (with_pairs label (neighborhood insertion) self.old.edges) cycle.items)) }
+        // After a failed allocation the elements and the edges are unchanged.
+        ensures failed { OnErr result ((self.new.elements ≡ self.old.elements) × (self.new.edges ≡ self.old.edges)) }
+        // After a failed allocation the marks are unchanged.
+        ensures failed_marks { OnErr result (AreSameMarks self.old.views self.new.views) }
+    {
+        let number = self.numbers.len() as u32;
+        self.views[replica as usize].reserve(number)?;
+        self.numbers.add(insertion.element)?;
+        match add_insertion(alloc, &mut self.order, insertion, label) {
+            Ok(None) => {
+                self.views[replica as usize].insert(number);
+                Ok(None)
+            }
+            Ok(Some(cycle)) => {
+                self.numbers.take_back();
+                Ok(Some(cycle))
+            }
+            Err(error) => {
+                self.numbers.take_back();
+                Err(error)
+            }
+        }
+    }
+
+    /// Returns the numbers of a list's elements if the list has exactly the elements that the replica shows, each once,
+    /// in any order; otherwise returns `None`.
+    ///
+    /// # Errors
+    ///
+    /// `NoMemory` if allocation fails.
+    ///
+    /// # Complexity
+    ///
+    /// That of `ReplicaView::check_read`.
+    pub fn check_read(
+        &mut self,
+        alloc: Global,
+        replica: u8,
+        list: &[u32],
+    ) -> Result<Option<Listed>, NoMemory>
+        // The replica has a view.
+        requires { replica < length self.old.views }
+        // The result is `None` exactly if the list does not have the shown elements, each once.
+        ensures exactly { let marks = (view_at self.old.views replica).marks in
+            IfOk result (λ found. MatchOption found (¬ IsRead self.old.elements marks list.now)
+            (λ listed. IsRead self.old.elements marks list.now)) }
+        // The numbers are those of the listed elements.
+        ensures numbers { IfOk result (λ found. MatchOption found (Unit {0})
+            (λ listed. AreNumbersOf self.old.elements list.now listed.numbers.items)) }
+        // Before `start` and from `end` on they are those of the last read, from its front and from its back.
+        ensures as_last { IfOk result (λ found. MatchOption found (Unit {0}) (λ listed.
+            AreAsLast (view_at self.old.views replica).last listed.numbers.items listed.start listed.end)) }
+        // Nothing is changed.
+        ensures same { self.new ≡ self.old }
+    {
+        self.views[replica as usize].check_read(alloc, &self.numbers, list)
+    }
+
+    /// Returns `true` if the replica shows each element of the list and none is listed twice.
+    ///
+    /// # Errors
+    ///
+    /// `NoMemory` if allocation fails.
+    ///
+    /// # Complexity
+    ///
+    /// That of `ReplicaView::check_part`.
+    pub fn check_part(&mut self, alloc: Global, replica: u8, list: &[u32]) -> Result<bool, NoMemory>
+        // The replica has a view.
+        requires { replica < length self.old.views }
+        // The result is `true` exactly if the list has shown elements alone, each at most once.
+        ensures exactly { IfOk result (λ is. IsTrue is
+            ↔ IsPart self.old.elements (view_at self.old.views replica).marks list.now) }
+        // Nothing is changed.
+        ensures same { self.new ≡ self.old }
+    {
+        self.views[replica as usize].check_part(alloc, &self.numbers, list)
+    }
+
+    /// Adds the edges of a list that the replica returned, which `check_read` found right, and returns `None`; or
+    /// returns a cycle of these edges and the earlier ones. After a cycle nothing is changed but the kept order.
+    ///
+    /// # Errors
+    ///
+    /// `NoMemory` if allocation fails; nothing is changed but the kept order.
+    ///
+    /// # Complexity
+    ///
+    /// That of `ra_list_edges::add_read` for the elements that are not those of the replica's last read.
+    pub fn read(
+        &mut self,
+        alloc: Global,
+        replica: u8,
+        list: &[u32],
+        listed: Listed,
+        label: u32,
+    ) -> Result<Option<Vec<Edge>>, NoMemory>
+        // The replica has a view.
+        requires replica { replica < length self.old.views }
+        // The numbers are those of the listed elements.
+        requires numbers { AreNumbersOf self.old.elements list.now listed.numbers.items }
+        // Before `start` and from `end` on they are those of the last read, from its front and from its back.
+        requires as_last { AreAsLast (view_at self.old.views replica).last listed.numbers.items listed.start
+            listed.end }
+        // The elements are unchanged, even after a failure.
+        ensures elements { self.new.elements ≡ self.old.elements }
+        // The marks are unchanged, even after a failure.
+        ensures marks { AreSameMarks self.old.views self.new.views }
+        // All edges are added; or the result is a cycle, and the edges are unchanged.
+        ensures edges { IfOk result (λ found. MatchOption found
+            (AddsPairs label list.now self.old.edges self.new.edges)
+            (λ cycle. (self.new.edges ≡ self.old.edges)
+            × IsCycle (with_pairs label list.now self.old.edges) cycle.items)) }
+        // After a failed allocation the edges are unchanged.
+        ensures failed { OnErr result (self.new.edges ≡ self.old.edges) }
+    {
+        let Listed {
+            numbers,
+            start,
+            end,
+        } = listed;
+        let (first, last) = changed(list.len(), start, end);
+        match add_read(alloc, &mut self.order, &list[first..last], label)? {
+            None => {
+                self.views[replica as usize].keep(numbers);
+                Ok(None)
+            }
+            Some(cycle) => Ok(Some(cycle)),
+        }
+    }
+
+    /// Adds the edges of a part of a list, which `check_part` found right, and returns `None`; or returns a cycle of
+    /// these edges and the earlier ones. After a cycle nothing is changed but the kept order.
+    ///
+    /// # Errors
+    ///
+    /// `NoMemory` if allocation fails; nothing is changed but the kept order.
+    ///
+    /// # Complexity
+    ///
+    /// That of `ra_list_edges::add_read`.
+    pub fn read_part(
+        &mut self,
+        alloc: Global,
+        list: &[u32],
+        label: u32,
+    ) -> Result<Option<Vec<Edge>>, NoMemory>
+        // Some replica shows the listed elements.
+        requires { (replica : ℕ) × IsPart self.old.elements (view_at self.old.views replica).marks list.now }
+        // The elements are unchanged, even after a failure.
+        ensures elements { self.new.elements ≡ self.old.elements }
+        // The views are unchanged, even after a failure.
+        ensures views { self.new.views ≡ self.old.views }
+        // All edges are added; or the result is a cycle, and the edges are unchanged.
+        ensures edges { IfOk result (λ found. MatchOption found
+            (AddsPairs label list.now self.old.edges self.new.edges)
+            (λ cycle. (self.new.edges ≡ self.old.edges)
+            × IsCycle (with_pairs label list.now self.old.edges) cycle.items)) }
+        // After a failed allocation the edges are unchanged.
+        ensures failed { OnErr result (self.new.edges ≡ self.old.edges) }
+    {
+        add_read(alloc, &mut self.order, list, label)
+    }
+
+    /// Adds the delivery of an insertion: the replica shows the element.
+    ///
+    /// # Errors
+    ///
+    /// `NoMemory` if allocation fails; nothing is changed.
+    ///
+    /// # Complexity
+    ///
+    /// O(1), amortized.
+    pub fn show(&mut self, replica: u8, number: u32) -> Result<(), NoMemory>
+        // The replica has a view.
+        requires replica { replica < length self.old.views }
+        // The number is that of an element.
+        requires number { number < length self.old.elements }
+        // The replica does not have the element.
+        requires missing { mark_of self.old.views replica number ≡ marks.Missing }
+        // The elements and the edges are unchanged, even after a failure.
+        ensures same { (self.new.elements ≡ self.old.elements) × (self.new.edges ≡ self.old.edges) }
+        // The replica shows the element; the other marks are unchanged.
+        ensures marks { OnOk result (IsMarked self.old.views replica number marks.Shown self.new.views) }
+        // After a failed allocation the marks are unchanged.
+        ensures failed { OnErr result (AreSameMarks self.old.views self.new.views) }
+    {
+        self.views[replica as usize].reserve(number)?;
+        self.views[replica as usize].insert(number);
+        Ok(())
+    }
+
+    /// Adds a removal or its delivery: the replica no longer shows the element. Does not allocate.
+    ///
+    /// # Complexity
+    ///
+    /// O(1).
+    pub fn hide(&mut self, replica: u8, number: u32)
+        // The replica has a view.
+        requires replica { replica < length self.old.views }
+        // The replica has the element.
+        requires had { ¬ (mark_of self.old.views replica number ≡ marks.Missing) }
+        // The elements and the edges are unchanged.
+        ensures same { (self.new.elements ≡ self.old.elements) × (self.new.edges ≡ self.old.edges) }
+        // The replica no longer shows the element; the other marks are unchanged.
+        ensures marks { IsMarked self.old.views replica number marks.Removed self.new.views }
+    {
+        self.views[replica as usize].remove(number);
+    }
+
+    /// Adds the next replica, which has the same elements as this one and shows the same.
+    ///
+    /// # Errors
+    ///
+    /// `NoMemory` if allocation fails; nothing is changed.
+    ///
+    /// # Complexity
+    ///
+    /// O(n) with `n` elements.
+    pub fn join(&mut self, from: u8) -> Result<(), NoMemory>
+        // The replica has a view.
+        requires { from < length self.old.views }
+        // The elements and the edges are unchanged, even after a failure.
+        ensures same { (self.new.elements ≡ self.old.elements) × (self.new.edges ≡ self.old.edges) }
+        // The next replica has a copy of the view.
+        ensures joined { OnOk result (self.new.views ≡ self.old.views ++ view_at self.old.views from ∷ []) }
+        // After a failed allocation the views are unchanged.
+        ensures failed { OnErr result (self.new.views ≡ self.old.views) }
+    {
+        let view = self.views[from as usize].copy()?;
+        self.views.push(view)?;
+        Ok(())
+    }
+
+    /// Returns the kept order and its edges.
+    pub fn order(&self) -> &ListOrder
+        // The order and the edges are those of the witness.
+        ensures { (result.now.order ≡ self.now.order) × (result.now.edges ≡ self.now.edges) }
+    {
+        &self.order
+    }
+
+    /// Returns what the replica's view says of the element with this number.
+    pub fn mark(&self, replica: u8, number: u32) -> Mark
+        // The replica has a view.
+        requires { replica < length self.now.views }
+        // The result is the mark of the number in the replica's view.
+        ensures { result ≡ mark_of self.now.views replica number }
+    {
+        self.views[replica as usize].mark(number)
+    }
+
+    /// Returns the number of replicas.
+    pub fn replicas(&self) -> usize
+        // The result is the number of views.
+        ensures { result ≡ length self.now.views }
+    {
+        self.views.len()
+    }
+
+    /// Returns the number of elements. It is the number that the next element gets.
+    pub fn len(&self) -> usize
+        // The result is the number of elements.
+        ensures { result ≡ length self.now.elements }
+    {
+        self.numbers.len()
+    }
+}
+
+// Returns the cause that is tested first, of those of the two neighbours.
+fn first_cause(left: Option<Cause>, right: Option<Cause>) -> Option<Cause>
+    ensures { result ≡ first_cause left right }
+{
+    match left {
+        None => right,
+        Some(Cause::Update) => left,
+        Some(_) => match right {
+            Some(Cause::Update) => right,
+            _ => left,
+        },
+    }
+}
+
+// Returns the part of a list of this length whose pairs are not all those of the last read: what is from `start` up to
+// `end`, and one element on each side.
+fn changed(length: usize, start: usize, end: usize) -> (usize, usize)
+    requires ordered { start ≤ end }
+    requires within { end ≤ length }
+    ensures first { result.0 ≡ start - 1 }
+    ensures ordered { result.0 ≤ result.1 }
+    ensures within { result.1 ≤ length }
+    ensures reach { (i : ℕ) → i < end → i + 1 < length → i + 1 < result.1 }
+{
+    let first = start.saturating_sub(1);
+    if end < length {
+        (first, end + 1)
+    } else {
+        (first, length)
+    }
+}
