@@ -119,6 +119,18 @@ test("an interrupt ends with the verdict", async () => {
   assert.deepEqual(await ended(run), [0, "ok 0\nend yes 1\n"]);
 });
 
+test("a second interrupt ends the run at once", async () => {
+  const folder = newFolder();
+  const path = program(folder, "#!/bin/sh\ncat > /dev/null\nsleep 10\n");
+  const run = watched(["--every", "0.1"], { folder, RA_MONITOR: path });
+  await run.waitFor("stderr", "reports 0");
+  for (let number = 0; number < 40 && !run.hasEnded(); number += 1) {
+    run.interrupt();
+    await sleep(200);
+  }
+  assert.equal(await run.wait(), "SIGINT");
+});
+
 test("a syntax fault is shown with what is expected", async () => {
   const folder = newFolder();
   const run = watched(["--replies"], { folder, RA_MONITOR: program(folder, EXPLAINS) });

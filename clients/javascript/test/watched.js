@@ -44,7 +44,7 @@ export class Watched {
     stdin.on("error", () => {});
     stdout.setEncoding("latin1").on("data", (it) => (this[columns === undefined ? "stdout" : "stderr"] += it));
     stderr.setEncoding("latin1").on("data", (it) => (this.stderr += it));
-    this.#end = new Promise((resolve) => this.#process.on("close", resolve));
+    this.#end = new Promise((resolve) => this.#process.on("close", (code, signal) => resolve(code ?? signal)));
   }
 
   /** The number of the process. */
@@ -69,6 +69,11 @@ export class Watched {
     process.kill(-this.#process.pid, "SIGINT");
   }
 
+  /** Returns whether the process has ended. */
+  hasEnded() {
+    return this.#process.exitCode !== null || this.#process.signalCode !== null;
+  }
+
   /** Waits until the stream has the text this number of times. */
   async waitFor(stream, text, count = 1) {
     const end = Date.now() + PATIENCE;
@@ -79,10 +84,9 @@ export class Watched {
     }
   }
 
-  /** Waits for the end and returns the exit status. */
-  async wait() {
-    const ended = await Promise.race([this.#end, sleep(PATIENCE, "it has not ended", { ref: false })]);
-    return ended;
+  /** Waits for the end and returns the exit status, or the signal that ended it. */
+  wait() {
+    return Promise.race([this.#end, sleep(PATIENCE, "it has not ended", { ref: false })]);
   }
 
   /** Kills the run if it has not ended. */

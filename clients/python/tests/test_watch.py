@@ -2,6 +2,7 @@
 import os
 import random
 import re
+import signal
 import stat
 import tempfile
 import time
@@ -110,6 +111,15 @@ class Ends(Folder):
         run.wait_for("stdout", "ok 0\n")
         run.interrupt()
         self.assertEqual((run.wait(), run.stdout), (0, b"ok 0\nend yes 1\n"))
+
+    def test_a_second_interrupt_ends_the_run_at_once(self) -> None:
+        run = self.watched("--every", "0.1", RA_MONITOR=self.program("#!/bin/sh\ncat > /dev/null\nsleep 10\n"))
+        run.wait_for("stderr", "reports 0")
+        for _ in range(40):
+            if not run.has_ended():
+                run.interrupt()
+                time.sleep(0.2)
+        self.assertEqual(run.wait(), -signal.SIGINT)
 
     def test_a_syntax_fault_is_shown_with_what_is_expected(self) -> None:
         run = self.watched("--replies", RA_MONITOR=self.program(EXPLAINS))

@@ -2,6 +2,7 @@
 import fcntl
 import os
 import pty
+import select
 import signal
 import struct
 import subprocess
@@ -63,7 +64,13 @@ class Watched:
 
     def write(self, text: str) -> None:
         """Writes to the input."""
-        self._process.stdin.write(text.encode("latin-1"))  # type: ignore[union-attr]
+        unwritten, end = memoryview(text.encode("latin-1")), time.monotonic() + PATIENCE
+        while unwritten:
+            file = self._process.stdin.fileno()  # type: ignore[union-attr]
+            if not select.select([], [file], [], max(end - time.monotonic(), 0))[1]:
+                raise AssertionError("the input is not read")
+            # A pipe that can be written to takes that much without waiting.
+            unwritten = unwritten[os.write(file, unwritten[: select.PIPE_BUF]) :]
 
     def close(self) -> None:
         """Ends the input."""
@@ -72,6 +79,10 @@ class Watched:
     def interrupt(self) -> None:
         """Sends what Ctrl-C sends, to all processes of the run's group."""
         os.killpg(self._process.pid, signal.SIGINT)
+
+    def has_ended(self) -> bool:
+        """Returns whether the process has ended."""
+        return self._process.poll() is not None
 
     def wait_for(self, stream: str, text: str, count: int = 1) -> None:
         """Waits until the stream has the text this number of times."""

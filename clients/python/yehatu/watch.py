@@ -81,14 +81,15 @@ class _Watch:
         self._outputs: List[Any] = [stdout, stderr]
         os.set_blocking(self._input.fileno(), False)
         wakeup, self._wakeup = os.pipe()
-        before = [(it, signal.signal(it, self._interrupt)) for it in SIGNALS]
+        for number in SIGNALS:
+            signal.signal(number, self._interrupt)
         try:
             while self._outputs and not self._has_to_stop():
                 self._turn(wakeup)
             return self._outcome()
         finally:
-            for number, handler in before:
-                signal.signal(number, handler)
+            for number in SIGNALS:
+                signal.signal(number, signal.SIG_DFL)
             self._display.clear()
             self._process.kill()
             for it in (stdin, stdout, stderr):
