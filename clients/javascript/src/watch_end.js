@@ -5,7 +5,7 @@ import { describeCounts, describeVerdict, printable, printableText } from "./wat
 
 const PASS = 0;
 const NO_VERDICT = 2;
-const NO_PAGE = "the program cannot explain, so there is no page: install one that has `explain`";
+const NO_PAGE = "there is no page: the program has no `explain`, or that took too long";
 
 /**
  * Shows the verdict or the fault, writes the page, and returns the exit status. `outcome` has the counts, the seconds,
@@ -20,7 +20,9 @@ export function showEnd(program, outcome, text, { path, page }, display) {
   if (status === NO_VERDICT) showFault(program, outcome, text, display);
   else process.stdout.write(`${end}\n`);
   const hasPage = page !== undefined && writePage(program, text, page, display);
-  nameHistory({ program, text, path, isPass: status === PASS, hasPage, display });
+  const hasMoreToShow = status !== PASS || (page !== undefined && !hasPage);
+  const history = path ?? (hasMoreToShow ? keepHistory(text, display) : undefined);
+  if (!hasPage) display.print(howToMakeAPage(program, history));
   return status;
 }
 
@@ -44,7 +46,7 @@ function showFault(program, { status, stderr }, text, display) {
 function writePage(program, text, page, display) {
   const ran = text.withFile((file) => runExplain(program, file, "--html"));
   if (!ran?.stdout?.startsWith("<!doctype html>")) {
-    const why = text.fault ? `the text could not be kept (${text.fault}), so there is no page` : NO_PAGE;
+    const why = text.fault ? `there is no page: the text could not be kept (${text.fault})` : NO_PAGE;
     display.print(`yehatu: ${why}`);
     return false;
   }
@@ -58,20 +60,24 @@ function writePage(program, text, page, display) {
   return true;
 }
 
-/** Names the history and the command that makes a page of it. Standard input is kept unless it passed. */
-function nameHistory({ program, text, path, isPass, hasPage, display }) {
-  if (path === undefined && isPass) {
-    if (!hasPage) display.print("--page FILE writes a page about such a run");
-    return;
+/** Writes the text to a file, whose path it shows and returns. Returns nothing if that cannot be done. */
+function keepHistory(text, display) {
+  if (text.fault) return undefined;
+  try {
+    const path = text.copy();
+    display.print(`the history: ${path}`);
+    return path;
+  } catch (error) {
+    display.print(`yehatu: the history is not kept: ${error.message}`);
+    return undefined;
   }
-  if (path === undefined && text.fault) return;
-  const history = path ?? text.copy();
-  if (path === undefined) display.print(`the history: ${history}`);
-  if (!hasPage) {
-    // What was built to check cannot explain.
-    const named = program === CHECK_PROGRAM ? OWN_PROGRAM : program;
-    display.print(`a page about it: ${quoted(named)} explain --html ${quoted(history)} > page.html`);
-  }
+}
+
+function howToMakeAPage(program, path) {
+  if (path === undefined) return "--page FILE writes a page about such a run";
+  // What was built to check cannot explain.
+  const named = program === CHECK_PROGRAM ? OWN_PROGRAM : program;
+  return `a page about it: ${quoted(named)} explain --html ${quoted(path)} > page.html`;
 }
 
 /** Returns a word as a shell reads it. */

@@ -225,7 +225,8 @@ test("a program that cannot explain makes no page", async () => {
   run.write(COUNTER);
   run.close();
   assert.deepEqual(await ended(run), [0, "end yes 0\n"]);
-  assert.ok(run.stderr.includes("the program cannot explain, so there is no page"), run.stderr);
+  assert.ok(run.stderr.includes("there is no page: the program has no `explain`"), run.stderr);
+  assert.deepEqual(kept(folder).map((it) => readFileSync(it, "latin1")), [COUNTER]);
 });
 
 test("a growing file is followed", async () => {

@@ -203,7 +203,8 @@ class Pages(Folder):
         run.write(COUNTER)
         run.close()
         self.assertEqual((run.wait(), run.stdout), (0, b"end yes 0\n"))
-        self.assertIn("the program cannot explain, so there is no page", run.stderr.decode())
+        self.assertIn("there is no page: the program has no `explain`", run.stderr.decode())
+        self.assertEqual([it.read_text() for it in self.kept()], [COUNTER])
 
 
 class Sources(Folder):

@@ -11,7 +11,7 @@ from .watch_display import Display, describe_counts, describe_verdict, printable
 from .watch_text import Text
 
 PASS, NO_VERDICT = 0, 2
-NO_PAGE = "the program cannot explain, so there is no page: install one that has `explain`"
+NO_PAGE = "there is no page: the program has no `explain`, or that took too long"
 
 
 class Outcome(NamedTuple):
@@ -39,8 +39,20 @@ def show_end(
     else:
         write_output(f"{outcome.end}\n".encode())
     has_page = page is not None and _write_page(program, text, page, display)
-    _name_history(program, text, path, status, has_page, display)
+    has_more_to_show = status != PASS or (page is not None and not has_page)
+    if path is None and has_more_to_show:
+        path = _keep_history(text, display)
+    if not has_page:
+        display.print(_how_to_make_a_page(program, path))
     return status
+
+
+def _how_to_make_a_page(program: str, path: Optional[str]) -> str:
+    if path is None:
+        return "--page FILE writes a page about such a run"
+    # What was built to check cannot explain.
+    named = str(programs.OWN_PROGRAM) if program == str(programs.CHECK_PROGRAM) else program
+    return f"a page about it: {shlex.quote(named)} explain --html {shlex.quote(path)} > page.html"
 
 
 def _show_fault(program: str, outcome: Outcome, text: Text, display: Display) -> None:
@@ -62,7 +74,7 @@ def _write_page(program: str, text: Text, page: str, display: Display) -> bool:
     """Writes the page, or says why there is none."""
     ran = programs.run_explain(program, text.file, "--html") if text.rewind() else None
     if ran is None or not ran.stdout.startswith(b"<!doctype html>"):
-        why = f"the text could not be kept ({text.fault}), so there is no page" if text.fault else NO_PAGE
+        why = f"there is no page: the text could not be kept ({text.fault})" if text.fault else NO_PAGE
         display.print(f"yehatu: {why}")
         return False
     try:
@@ -74,22 +86,16 @@ def _write_page(program: str, text: Text, page: str, display: Display) -> bool:
     return True
 
 
-def _name_history(
-    program: str, text: Text, path: Optional[str], status: int, has_page: bool, display: Display
-) -> None:
-    """Names the history and the command that makes a page of it. Standard input is kept unless it passed."""
-    if path is None and status == PASS:
-        if not has_page:
-            display.print("--page FILE writes a page about such a run")
-        return
-    if path is None:
-        if not text.rewind():
-            return
+def _keep_history(text: Text, display: Display) -> Optional[str]:
+    """Writes the text to a file, whose path it shows and returns. Returns None if that cannot be done."""
+    if not text.rewind():
+        return None
+    try:
         number, path = tempfile.mkstemp(prefix="yehatu_", suffix=".rah")
         os.close(number)
         text.copy(path)
-        display.print(f"the history: {path}")
-    if not has_page:
-        # What was built to check cannot explain.
-        named = str(programs.OWN_PROGRAM) if program == str(programs.CHECK_PROGRAM) else program
-        display.print(f"a page about it: {shlex.quote(named)} explain --html {shlex.quote(path)} > page.html")
+    except OSError as error:
+        display.print(f"yehatu: the history is not kept: {error}")
+        return None
+    display.print(f"the history: {path}")
+    return path
