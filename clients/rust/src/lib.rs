@@ -1,6 +1,6 @@
 //! A client of the monitor of RA-linearizability, which reports what the replicas of a CRDT do.
 //!
-//! [`Monitor`] runs the program `ra_monitor` behind a pipe.
+//! [`Monitor`] runs the program `ra_monitor` behind a pipe. [`Recorder`] reports to it in the user's own names.
 
 #![deny(missing_docs)]
 #![forbid(unsafe_code)]
@@ -11,13 +11,22 @@ mod json;
 mod kind;
 mod monitor;
 mod numbers;
+mod observed;
+mod operation;
 mod options;
 mod pipe;
 mod program;
+mod recorder;
 mod report;
+mod reports;
+mod translation;
 
 pub use error::{Cause, Error, Failure, Violation};
 pub use kind::{Kind, Method};
 pub use monitor::{Label, Monitor};
+pub use numbers::Key;
+pub use operation::{Operation, Value};
 pub use options::Options;
+pub use recorder::Recorder;
 pub use report::Report;
+pub use reports::{Reports, Seen};
