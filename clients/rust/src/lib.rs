@@ -1,6 +1,8 @@
 //! A client of the monitor of RA-linearizability, which reports what the replicas of a CRDT do.
 //!
 //! [`Monitor`] runs the program `ra_monitor` behind a pipe. [`Recorder`] reports to it in the user's own names.
+//! [`check_random`] tests a type that implements [`Replica`] in random runs, and shrinks the first run that has a
+//! violation.
 
 #![deny(missing_docs)]
 #![forbid(unsafe_code)]
@@ -16,6 +18,7 @@ mod operation;
 mod options;
 mod pipe;
 mod program;
+mod random;
 mod recorder;
 mod report;
 mod reports;
@@ -27,6 +30,7 @@ pub use monitor::{Label, Monitor};
 pub use numbers::Key;
 pub use operation::{Operation, Value};
 pub use options::Options;
+pub use random::{check_random, replay, replay_with, Delivery, RandomOptions, Replica, Runs, Sent, Update};
 pub use recorder::Recorder;
 pub use report::Report;
 pub use reports::{Reports, Seen};
