@@ -18,7 +18,7 @@ def words_of_sources():
     words = set(re.findall(WORD, (TOP / "crates.txt").read_text(encoding="utf-8")))
     for folder in ("crates", "tests", "tools", "clients", "bench"):
         for at, folders, files in os.walk(TOP / folder):
-            folders[:] = [it for it in folders if it not in ("out", "__pycache__", "node_modules")]
+            folders[:] = [it for it in folders if it not in ("out", "target", "__pycache__", "node_modules")]
             for name in files:
                 if not name.endswith((".md", ".edit")):
                     with open(os.path.join(at, name), encoding="utf-8", errors="replace") as source:
