@@ -111,12 +111,26 @@ fn a_violation_is_found_within_the_window() {
     assert!(matches!(closed.close(), Err(Error::Violation(_))));
 }
 
+/// Fewer lines than a batch has are written too, though no call waits.
+#[test]
+fn a_violation_is_noticed_before_a_batch_is_full() {
+    let mut monitor = Monitor::new(Kind::Counter, &["a"]).unwrap();
+    monitor.read_count("a", 1).unwrap();
+    let is_noticed = (0..30).any(|_| {
+        std::thread::sleep(std::time::Duration::from_millis(100));
+        matches!(monitor.increment("a"), Err(Error::Violation(_)))
+    });
+    assert!(is_noticed);
+}
+
 #[test]
 fn a_rejected_report_is_an_error() {
     let mut monitor = Monitor::with_options(Kind::Counter, &["a", "b"], &each_reply()).unwrap();
     let label = monitor.increment("a").unwrap();
     let error = monitor.deliver("a", label).unwrap_err();
     assert!(matches!(&error, Error::Refused(it) if it.reply == "refused already-seen"), "{error}");
+    // Also the temporary file is the same.
+    assert_eq!(monitor.increment("a").unwrap_err().to_string(), error.to_string());
     let mut unknown = Monitor::with_options(Kind::Counter, &["a"], &each_reply()).unwrap();
     assert!(matches!(unknown.increment("c"), Err(Error::Refused(_))));
 }
