@@ -410,7 +410,9 @@ impl ListWitness {
     /// Returns the kept order and its edges.
     pub fn order(&self) -> &ListOrder
         // The order and the edges are those of the witness.
-        ensures { (result.now.order ≡ self.now.order) × (result.now.edges ≡ self.now.edges) }
+        ensures same { (result.now.order ≡ self.now.order) × (result.now.edges ≡ self.now.edges) }
+        // The order has all elements.
+        ensures all { (x : ℕ) → Contains self.now.elements x → Contains result.now.order x }
     {
         &self.order
     }

@@ -1,0 +1,6 @@
+pub mod AddedOperations
+pub mod Delivered
+pub mod FirstEffects
+pub mod JudgedOperations
+pub mod JudgedReads
+pub mod StateViews
