@@ -1,6 +1,6 @@
 -- The effects after an operation, a delivery or a join.
-use Rattle.std.proofs.Common.{◌≡◌, ◌↔◌, ℕ, ◌<◌, ◌≤◌, ◌+◌, Bool, true, false, List, [], ◌∷◌, ◌++◌, length, get_or, set, take, Option, Some, None, refl, sym, ap, ◌∙◌, subst, inl, inr, arith}
-use Rattle.std.specs.Prelude.{◌==◌, ◌⊎◌, not, Contains, unwrap_or, if◌then◌else◌}
+use Rattle.std.proofs.Common.{◌≡◌, ◌↔◌, ℕ, ◌<◌, ◌+◌, Bool, true, false, List, [], ◌∷◌, ◌++◌, length, get_or, set, take, Option, Some, None, refl, sym, ap, ◌∙◌, subst, inl, inr, arith}
+use Rattle.std.specs.Prelude.{◌==◌, Contains, unwrap_or, if◌then◌else◌}
 use Rattle.std.specs.List.{slice_get}
 use Rattle.std.specs.Ordering.{nat_cmp}
 use Rattle.std.specs.BTreeSet.{insert_key}
@@ -10,7 +10,6 @@ use Rattle.std.proofs.lemmas.List.{get_or_default, take_at, length-set, length_p
 use Rattle.ra_labels.proofs.Members.{none_there}
 use Rattle.std.proofs.lemmas.List.Elements.{Contains-append_left, Contains-append_right, Contains-append_cases, Contains-push_cases, Contains-push}
 use Rattle.ra_labels.specs.Lists.{is_among}
-use Rattle.ra_labels.proofs.InLists.{among-exactly}
 use Rattle.ra_list_order.specs.declared.edge.Edge.{Edge}
 use Rattle.ra_list_order.specs.Edges.{HasEdge, IsCycle}
 use Rattle.ra_list_order.specs.Reads.{edges_of_read}
@@ -18,12 +17,11 @@ use Rattle.ra_list_edges.specs.declared.insertion.Insertion.{Insertion}
 use Rattle.ra_list_edges.specs.Insertion.{neighborhood}
 use Rattle.ra_list_edges.specs.Pairs.{AddsSome, AddsPairs, with_pairs}
 use Rattle.ra_list_replica.specs.declared.mark.Mark.{Mark}
-use Rattle.ra_list_replica.specs.declared.mark.Mark.TheVariants.{Missing, Shown, Removed}
+use Rattle.ra_list_replica.specs.declared.mark.Mark.TheVariants.{Shown, Removed}
 use Rattle.ra_list_replica.specs.Numbers.{HasOneNumberEach}
 use Rattle.ra_list_replica.specs.View.{View, mark_at}
 use Rattle.ra_list_witness.specs.ListWitness.{ListWitness, no_view, view_at, mark_of, AreSameMarks, IsMarked}
 use Rattle.ra_list_witness.proofs.AdjacentPairs.{has_after}
-use Rattle.ra_list_witness.proofs.Views.{element_there, view_push}
 use Rattle.ra_list_model.specs.declared.operation.ListOp.TheVariants as op
 use Rattle.ra_list_model.specs.declared.operation.ListUpdate.{ListUpdate}
 use Rattle.ra_list_model.specs.declared.operation.ListUpdate.TheVariants.{Put, Hide}

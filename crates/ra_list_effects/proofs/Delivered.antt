@@ -1,24 +1,20 @@
 -- The delivery of an update that the replica's state admits.
-use Rattle.std.proofs.Common.{◌≡◌, ◌↔◌, ℕ, ◌<◌, Bool, true, false, List, [], length, get_or, set, Option, Some, None, refl, sym, ap, ◌∙◌, subst}
-use Rattle.std.specs.Prelude.{◌==◌, ◌&&◌, not, Contains, unwrap_or, if◌then◌else◌}
+use Rattle.std.proofs.Common.{◌≡◌, ℕ, ◌<◌, Bool, true, false, List, length, set, Option, Some, None, refl, sym, ◌∙◌, subst}
+use Rattle.std.specs.Prelude.{◌==◌, ◌&&◌, not, Contains}
 use Rattle.std.specs.List.{slice_get}
-use Rattle.std.proofs.lemmas.Bool.{false≢true, not-true, cond-true}
+use Rattle.std.proofs.lemmas.Bool.{false≢true}
 use Rattle.ra_labels.specs.Lists.{is_among}
 use Rattle.ra_labels.proofs.InLists.{among-exactly}
-use Rattle.ra_list_replica.specs.declared.mark.Mark.{Mark}
 use Rattle.ra_list_replica.specs.declared.mark.Mark.TheVariants.{Missing, Shown, Removed}
-use Rattle.ra_list_replica.specs.View.{mark_at}
 use Rattle.ra_list_witness.specs.ListWitness.{ListWitness, view_at, mark_of, IsMarked}
-use Rattle.ra_list_witness.proofs.Views.{element_there}
 use Rattle.ra_list_edges.specs.declared.insertion.Insertion.{Insertion}
 use Rattle.ra_list_model.specs.declared.operation.ListUpdate.{ListUpdate}
 use Rattle.ra_list_model.specs.declared.operation.ListUpdate.TheVariants.{Put, Hide}
 use Rattle.ra_list_model.specs.Free.{ListState, can_insert, list_step, are_neighbors}
 use Rattle.ra_list_effects.specs.declared.list_effects.Change.{Change}
 use Rattle.ra_list_effects.specs.declared.list_effects.Change.TheVariants as change
-use Rattle.ra_list_effects.specs.Past.{Past, state_at, after_update, with_delivery}
-use Rattle.ra_list_effects.specs.Views.{mark_in, IsViewOf}
-use Rattle.ra_list_effects.specs.Effects.{Effects, IsChangeOf, AreEffectsOf}
+use Rattle.ra_list_effects.specs.Past.{Past, state_at, with_delivery}
+use Rattle.ra_list_effects.specs.Effects.{IsChangeOf, AreEffectsOf}
 use Rattle.ra_list_effects.proofs.JudgedOperations.{mark_missing, not_missing}
 use Rattle.ra_list_effects.proofs.StateViews.{with_element, with_removal, view_shown, view_removed}
 use Rattle.ra_list_effects.proofs.AddedOperations.{effects_of, after_delivery, admitted_insertion, admitted_removal, inserted_step, removed_step}

@@ -1,17 +1,16 @@
 -- The effects of nothing.
-use Rattle.std.proofs.Common.{◌≡◌, ℕ, ◌<◌, List, [], length, get_or, replicate, Option, Some, None, refl, sym, ap, ◌∙◌, subst, inl, inr, arith}
+use Rattle.std.proofs.Common.{◌≡◌, ℕ, List, [], length, replicate, Option, sym, ap, ◌∙◌, subst, inl, inr, arith}
 use Rattle.std.specs.Prelude.{Contains}
 use Rattle.std.proofs.lemmas.Bool.{cases_lt}
 use Rattle.std.proofs.lemmas.List.{length-replicate, get_or-replicate, get_or_past}
-use Rattle.std.proofs.lemmas.Option.{slice_get_within}
 use Rattle.ra_labels.proofs.Members.{none_there}
 use Rattle.ra_list_replica.specs.declared.mark.Mark.TheVariants.{Missing}
 use Rattle.ra_list_witness.specs.ListWitness.{ListWitness, view_at, mark_of}
 use Rattle.ra_list_witness.proofs.Views.{element_there}
-use Rattle.ra_list_model.specs.Free.{ListState, empty_list}
+use Rattle.ra_list_model.specs.Free.{empty_list}
 use Rattle.ra_list_effects.specs.declared.list_effects.Change.{Change}
 use Rattle.ra_list_effects.specs.Past.{empty_past, state_at}
-use Rattle.ra_list_effects.specs.Effects.{Effects, AreEffectsOf}
+use Rattle.ra_list_effects.specs.Effects.{AreEffectsOf}
 use Rattle.ra_list_effects.specs.Views.{IsViewOf}
 
 pub empty_state : (n replica : ℕ) → state_at (replicate n empty_list) replica ≡ empty_list

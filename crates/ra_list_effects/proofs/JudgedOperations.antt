@@ -1,6 +1,6 @@
 -- What the views and the elements say of an insertion or a removal is what the states say.
-use Rattle.std.proofs.Common.{◌≡◌, ◌↔◌, ℕ, Bool, true, false, List, Option, Some, None, cond, refl, sym, ap, ◌∙◌, subst, inl, inr}
-use Rattle.std.specs.Prelude.{◌==◌, ◌&&◌, ◌||◌, ◌⊎◌, not, Contains, is_some, if◌then◌else◌}
+use Rattle.std.proofs.Common.{◌≡◌, ◌↔◌, ℕ, Bool, true, false, List, Option, Some, None, refl, sym, ap, ◌∙◌, subst, inl, inr}
+use Rattle.std.specs.Prelude.{◌==◌, not, Contains, is_some, if◌then◌else◌}
 use Rattle.std.specs.List.{slice_get}
 use Rattle.std.proofs.lemmas.Bool.{false≢true, cases_Bool, cond-true, cond-false, and_parts, and_from, eqb-true, eqb-false, eq-eqb, ne_eqb, or_cases, or_left, or_right, not-true, not_from_false, not_from_true, false_from_ne_true}
 use Rattle.std.proofs.lemmas.Option.{slice_get-get_or}
@@ -12,11 +12,11 @@ use Rattle.ra_list_edges.specs.declared.insertion.Insertion.{Insertion}
 use Rattle.ra_list_edges.specs.Insertion.{IsKnown}
 use Rattle.ra_list_replica.specs.declared.mark.Mark.{Mark}
 use Rattle.ra_list_replica.specs.declared.mark.Mark.TheVariants.{Missing, Shown, Removed}
-use Rattle.ra_list_replica.specs.View.{mark_at}
-use Rattle.ra_list_witness.specs.Causes.{IsHadAs, HasElement, HasNeighbor, HasNeighbors, CanInsert, IsCauseAt, IsCauseOfInsertion}
+use Rattle.ra_list_witness.specs.Causes.{HasElement, HasNeighbor, HasNeighbors, CanInsert, IsCauseOfInsertion}
 use Rattle.ra_list_model.specs.declared.operation.ListOp.TheVariants as op
-use Rattle.ra_list_model.specs.declared.operation.ListUpdate.TheVariants.{Put, Hide}
-use Rattle.ra_list_model.specs.Free.{ListState, is_neighbor, are_neighbors, can_insert, list_step}
+use Rattle.ra_list_model.specs.declared.operation.ListUpdate.TheVariants.{Put}
+use Rattle.ra_list_model.specs.Free.{ListState, is_neighbor, are_neighbors, can_insert}
+use Rattle.ra_list_model.proofs.KeptUpdates.{three, all_three}
 use Rattle.ra_list_effects.specs.Past.{Past, state_at, cause_at, admits}
 use Rattle.ra_list_effects.specs.Views.{mark_in, IsViewOf}
 
@@ -71,18 +71,6 @@ module _ (elements : List ℕ) (marks : List Mark) (state : ListState) (view : I
         ((neighbor_exactly insertion.left).1 has.0) ((neighbor_exactly insertion.right).1 has.1)),
   )
 
-three : (a b c : Bool) → (a && b && c) ≡ true → (a ≡ true) × (b ≡ true) × (c ≡ true)
-three false b c is = absurd (false≢true is)
-three true false c is = absurd (false≢true is)
-three true true false is = absurd (false≢true is)
-three true true true is = (refl, refl, refl)
-
-all_three : (a b c : Bool) → a ≡ true → b ≡ true → c ≡ true → (a && b && c) ≡ true
-all_three true true true a b c = refl
-all_three false _ _ a b c = absurd (false≢true a)
-all_three true false _ a b c = absurd (false≢true b)
-all_three true true false a b c = absurd (false≢true c)
-
 module _ (elements : List ℕ) (whole : ListState) (same : (x : ℕ) → Contains elements x ↔ Contains whole.inserted x) where
   known_exactly : (x : ℕ) → (is_neighbor whole x ≡ true) ↔ IsKnown elements x
   known_exactly x = (
@@ -117,10 +105,6 @@ module _ (elements : List ℕ) (whole : ListState) (same : (x : ℕ) → Contain
             (and_from (is_neighbor whole insertion.left) (is_neighbor whole insertion.right)
             ((known_exactly insertion.left).1 can.left) ((known_exactly insertion.right).1 can.right))),
       )
-
--- the cause by two tests
-pub first_of_tests : (a b : Bool) → Option Cause
-first_of_tests a b = if not a then Some Update else if not b then Some Query else None
 
 pub is_some_if : {A : Type 0} (b : Bool) (x : A) → is_some (if b then Some x else None) ≡ b
 is_some_if true x = refl

@@ -1,10 +1,9 @@
 -- What the views say of a removal or a read is what the states say.
-use Rattle.std.proofs.Common.{◌≡◌, ◌↔◌, ℕ, ◌<◌, ◌≤◌, Bool, true, false, List, [], ◌∷◌, length, get_or, filter, Option, Some, None, cond, refl, sym, ap, ◌∙◌, subst, inl, inr, arith}
-use Rattle.std.specs.Prelude.{◌==◌, ◌&&◌, ◌⊎◌, not, Contains, is_some, if◌then◌else◌}
+use Rattle.std.proofs.Common.{◌≡◌, ◌↔◌, ℕ, Bool, true, false, List, [], ◌∷◌, length, get_or, Some, None, refl, sym, ◌∙◌, subst, inl, inr}
+use Rattle.std.specs.Prelude.{not, Contains, if◌then◌else◌}
 use Rattle.std.specs.List.{list_all, slice_get}
 use Rattle.std.proofs.lemmas.Bool.{false≢true, cases_Bool, cases_lt, cond-true, cond-false, and_parts, and_from, not-true, not_from_false, not_from_true, false_from_ne_true}
 use Rattle.std.proofs.lemmas.Option.{slice_get-get_or}
-use Rattle.std.proofs.lemmas.List.Elements.{Contains-get_or}
 use Rattle.ra_labels.specs.Lists.{is_among, have_same_elements}
 use Rattle.ra_labels.specs.declared.reply.Cause.{Cause}
 use Rattle.ra_labels.specs.declared.reply.Cause.TheVariants.{Order, Update, Query}
@@ -14,12 +13,12 @@ use Rattle.ra_labels.proofs.Members.{there-kept, kept-there}
 use Rattle.ra_list_replica.specs.declared.mark.Mark.{Mark}
 use Rattle.ra_list_replica.specs.declared.mark.Mark.TheVariants.{Missing, Shown, Removed}
 use Rattle.ra_list_replica.specs.View.{mark_at, IsShown, IsPart, IsRead}
-use Rattle.ra_list_witness.specs.Causes.{IsHadAs, HasElement, IsCauseAt}
+use Rattle.ra_list_witness.specs.Causes.{IsHadAs, IsCauseAt}
 use Rattle.ra_list_witness.proofs.Views.{element_there}
 use Rattle.ra_list_model.specs.declared.operation.ListOp.TheVariants as op
-use Rattle.ra_list_model.specs.declared.operation.ListUpdate.TheVariants.{Put, Hide}
-use Rattle.ra_list_model.specs.declared.operation.ListQuery.TheVariants.{Read, Part, Has}
-use Rattle.ra_list_model.specs.Free.{ListState, shown_in, has_each_once, list_answers, list_step}
+use Rattle.ra_list_model.specs.declared.operation.ListUpdate.TheVariants.{Hide}
+use Rattle.ra_list_model.specs.declared.operation.ListQuery.TheVariants.{Read, Part}
+use Rattle.ra_list_model.specs.Free.{ListState, shown_in, has_each_once, list_answers}
 use Rattle.ra_list_effects.specs.Past.{Past, state_at, cause_at, admits}
 use Rattle.ra_list_effects.specs.Views.{mark_in, IsViewOf}
 use Rattle.ra_list_effects.proofs.JudgedOperations.{mark_missing, mark_there, has_exactly, is_some_if}
@@ -163,9 +162,6 @@ part_wrong elements marks past replica list view none =
     none ((part_exactly elements marks (state_at past.replicas replica) view list).0 is)))
 
 -- a removal
-two_tests : (a b : Bool) → Option Cause
-two_tests a b = if not a then Some Update else if not b then Some Query else None
-
 both_right : (a b : Bool) → a ≡ true → b ≡ true → None ≡ (if not a then Some Update else if not b then Some Query else None)
 both_right a b first second = sym (cond-false (not a) (Some Update) _ (not_from_true a first)
     ∙ cond-false (not b) (Some Query) None (not_from_true b second))

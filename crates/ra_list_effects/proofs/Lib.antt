@@ -3,4 +3,5 @@ pub mod Delivered
 pub mod FirstEffects
 pub mod JudgedOperations
 pub mod JudgedReads
+pub mod Outcomes
 pub mod StateViews

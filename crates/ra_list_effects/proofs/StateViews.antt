@@ -1,12 +1,12 @@
 -- The view of a replica after one more update, and with one more element.
-use Rattle.std.proofs.Common.{◌≡◌, ◌↔◌, ℕ, ◌<◌, ◌≤◌, ◌+◌, Bool, true, false, List, [], ◌∷◌, ◌++◌, length, get_or, set, Option, Some, None, refl, sym, ap, ◌∙◌, subst, inl, inr, arith}
+use Rattle.std.proofs.Common.{◌≡◌, ℕ, ◌<◌, true, false, List, [], ◌∷◌, ◌++◌, length, get_or, set, Some, refl, sym, ap, ◌∙◌, subst, inl, inr, arith}
 use Rattle.std.specs.Prelude.{◌==◌, ◌&&◌, ◌⊎◌, not, Contains, if◌then◌else◌}
 use Rattle.std.specs.List.{slice_get}
 use Rattle.std.specs.Ordering.{nat_cmp}
 use Rattle.std.specs.BTreeSet.{insert_key}
-use Rattle.std.proofs.lemmas.Bool.{false≢true, cases_Bool, cases_eq, cases_lt, cond-true, cond-false, eq-eqb, ne_eqb, not_from_true, false_from_ne_true}
+use Rattle.std.proofs.lemmas.Bool.{cases_eq, cases_lt, cond-true, cond-false, eq-eqb, ne_eqb, false_from_ne_true}
 use Rattle.std.proofs.lemmas.Option.{slice_get_within, slice_get-get_or, get_or_from_slice_get}
-use Rattle.std.proofs.lemmas.List.{length-set, length_push, get_or_append_left, get_or-set_same, get_or-set_other}
+use Rattle.std.proofs.lemmas.List.{length_push, get_or_append_left, get_or-set_same, get_or-set_other}
 use Rattle.std.proofs.lemmas.List.Elements.{Contains-append_left}
 use Rattle.std.proofs.Math.Seq.{get_or-append_seam}
 use Rattle.ra_labels.specs.Lists.{is_among}
@@ -19,6 +19,7 @@ use Rattle.ra_list_witness.specs.ListWitness.{view_at, mark_of, IsMarked}
 use Rattle.ra_list_witness.proofs.Views.{element_there}
 use Rattle.ra_list_model.specs.Free.{ListState, empty_list}
 use Rattle.ra_list_model.proofs.AdmittedUpdates.{in_set}
+use Rattle.ra_list_model.proofs.OnceListed.{same_bool}
 use Rattle.ra_list_effects.specs.Past.{state_at}
 use Rattle.ra_list_effects.specs.Views.{mark_in, IsViewOf}
 use Rattle.ra_list_effects.proofs.JudgedOperations.{mark_missing, mark_there}
@@ -26,11 +27,6 @@ use Rattle.ra_list_effects.proofs.JudgedOperations.{mark_missing, mark_there}
 -- what is in a set with one more element
 among_new : (x : ℕ) (xs : List ℕ) → is_among x (insert_key nat_cmp xs x) ≡ true
 among_new x xs = (among-exactly x (insert_key nat_cmp xs x)).1 ((in_set x x xs).1 (inl refl))
-
-same_bool : (a b : Bool) → (a ≡ true → b ≡ true) → (b ≡ true → a ≡ true) → a ≡ b
-same_bool true b to from = sym (to refl)
-same_bool false true to from = from refl
-same_bool false false to from = refl
 
 among_other : (y x : ℕ) (xs : List ℕ) → ¬ (y ≡ x) → is_among y (insert_key nat_cmp xs x) ≡ is_among y xs
 among_other y x xs other =

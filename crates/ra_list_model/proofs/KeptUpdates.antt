@@ -16,13 +16,13 @@ use Rattle.ra_list_model.specs.Kept.{Puts, Needs, KeepsWhatIsNeeded, kept_by, up
 use Rattle.ra_list_model.proofs.BetweenNeighbors.{chosen}
 use Rattle.ra_list_model.proofs.AdmittedUpdates.{PutsOne, led_from, puts_cases, step_inserted, inserted_from}
 
-three : (a b c : Bool) → (a && b && c) ≡ true → (a ≡ true) × (b ≡ true) × (c ≡ true)
+pub three : (a b c : Bool) → (a && b && c) ≡ true → (a ≡ true) × (b ≡ true) × (c ≡ true)
 three false b c is = absurd (false≢true is)
 three true false c is = absurd (false≢true is)
 three true true false is = absurd (false≢true is)
 three true true true is = (refl, refl, refl)
 
-all_three : (a b c : Bool) → a ≡ true → b ≡ true → c ≡ true → (a && b && c) ≡ true
+pub all_three : (a b c : Bool) → a ≡ true → b ≡ true → c ≡ true → (a && b && c) ≡ true
 all_three true true true a b c = refl
 all_three false _ _ a b c = absurd (false≢true a)
 all_three true false _ a b c = absurd (false≢true b)

@@ -101,7 +101,7 @@ filter_same p q (x ∷ xs) same =
     ap (λ b. cond b (x ∷ filter p xs) (filter p xs)) (same x)
     ∙ ap (λ ys. cond (q x) (x ∷ ys) ys) (filter_same p q xs same)
 
-same_bool : (a b : Bool) → (a ≡ true → b ≡ true) → (b ≡ true → a ≡ true) → a ≡ b
+pub same_bool : (a b : Bool) → (a ≡ true → b ≡ true) → (b ≡ true → a ≡ true) → a ≡ b
 same_bool true b to from = sym (to refl)
 same_bool false true to from = from refl
 same_bool false false to from = refl

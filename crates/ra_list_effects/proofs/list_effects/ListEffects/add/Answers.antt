@@ -1,5 +1,4 @@
-use Rattle.std.proofs.Common.{rules, ◌≡◌, Option, Some, None, sym, subst}
-use Rattle.std.specs.Prelude.{IfOk, MatchOption}
+use Rattle.std.proofs.Common.{rules, sym, subst}
 use Rattle.ra_list_model.specs.declared.operation.ListOp.TheVariants as op
 use Rattle.ra_list_effects.specs.declared.list_effects.Found.TheVariants as found
 use Rattle.ra_list_effects.specs.Past.{with_operation}

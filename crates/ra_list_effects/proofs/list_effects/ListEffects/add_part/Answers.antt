@@ -1,4 +1,4 @@
-use Rattle.std.proofs.Common.{arith, ◌≡◌, sym, ap, ◌∙◌, subst}
+use Rattle.std.proofs.Common.{arith, sym, ◌∙◌, subst}
 use Rattle.ra_list_order.specs.Reads.{edges_of_read}
 use Rattle.ra_list_effects.specs.Effects.{AreEffectsOf}
 use Rattle.ra_list_effects.proofs.AddedOperations.{effects_of, with_read, same_past, after_read, without_last, cycle_of_past, same_views}

@@ -1,4 +1,4 @@
-use Rattle.std.proofs.Common.{◌≡◌, ◌<◌, ◌++◌, [], ◌∷◌, length, Some, sym, ap, ◌∙◌, subst}
+use Rattle.std.proofs.Common.{◌≡◌, ◌<◌, length, Some, sym, subst}
 use Rattle.std.specs.List.{slice_get}
 use Rattle.ra_labels.proofs.InLists.{among-exactly}
 use Rattle.ra_list_replica.specs.declared.mark.Mark.TheVariants.{Missing}

@@ -1,18 +1,9 @@
-use Rattle.std.proofs.Common.{◌≡◌, ◌<◌, ℕ, length, Option, Some, None, Result, Ok, Err, sym, ap, ◌∙◌, subst}
-use Rattle.std.specs.Prelude.{OnOk, OnErr}
-use Rattle.ra_list_effects.specs.declared.list_effects.Change.TheVariants.{Show, Hide}
+use Rattle.std.proofs.Common.{Some, sym, subst}
 use Rattle.ra_list_effects.specs.Effects.{AreEffectsOf, IsChangeOf}
 use Rattle.ra_list_effects.proofs.AddedOperations.{change_at, same_past}
 use Rattle.ra_list_effects.proofs.Delivered.{show_missing, hide_had, delivered_show, delivered_hide}
+use Rattle.ra_list_effects.proofs.Outcomes.{on_ok, on_err}
 use Rattle.ra_list_effects.proofs.list_effects.ListEffects.deliver.Goals as goal
-
-on_ok : {T E : Type 0} (r : Result T E) (P Q : Type 0) → (P → Q) → OnOk r P → OnOk r Q
-on_ok (Ok x) P Q then is = then is
-on_ok (Err e) P Q then is = tt
-
-on_err : {T E : Type 0} (r : Result T E) (P Q : Type 0) → (P → Q) → OnErr r P → OnErr r Q
-on_err (Ok x) P Q then is = tt
-on_err (Err e) P Q then is = then is
 
 pub show-requires-clause-missing : goal.show-requires-clause-missing
 show-requires-clause-missing c =

@@ -1,17 +1,9 @@
-use Rattle.std.proofs.Common.{◌≡◌, Result, Ok, Err, refl, sym, ap, subst, length}
-use Rattle.std.specs.Prelude.{OnOk, OnErr}
+use Rattle.std.proofs.Common.{sym, ap, subst, length}
 use Rattle.ra_list_witness.specs.ListWitness.{mark_of}
 use Rattle.ra_list_effects.specs.Effects.{AreEffectsOf}
 use Rattle.ra_list_effects.proofs.AddedOperations.{same_past, after_join}
+use Rattle.ra_list_effects.proofs.Outcomes.{on_ok, on_err}
 use Rattle.ra_list_effects.proofs.list_effects.ListEffects.join.Goals as goal
-
-on_ok : {T E : Type 0} (r : Result T E) (P Q : Type 0) → (P → Q) → OnOk r P → OnOk r Q
-on_ok (Ok x) P Q then is = then is
-on_ok (Err e) P Q then is = tt
-
-on_err : {T E : Type 0} (r : Result T E) (P Q : Type 0) → (P → Q) → OnErr r P → OnErr r Q
-on_err (Ok x) P Q then is = tt
-on_err (Err e) P Q then is = then is
 
 pub returns-clause-joined : goal.returns-clause-joined
 returns-clause-joined c = λ past stands.

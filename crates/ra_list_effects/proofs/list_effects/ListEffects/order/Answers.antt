@@ -1,4 +1,4 @@
-use Rattle.std.proofs.Common.{◌≡◌, sym, ◌∙◌, subst}
+use Rattle.std.proofs.Common.{sym, subst}
 use Rattle.std.specs.Prelude.{Contains}
 use Rattle.ra_list_order.specs.Edges.{IsBefore}
 use Rattle.ra_list_effects.specs.Effects.{AreEffectsOf}

@@ -1,4 +1,4 @@
-use Rattle.std.proofs.Common.{sym, ◌∙◌, subst}
+use Rattle.std.proofs.Common.{sym, subst}
 use Rattle.ra_list_witness.specs.ListWitness.{view_at}
 use Rattle.ra_list_effects.specs.Effects.{AreEffectsOf}
 use Rattle.ra_list_effects.proofs.JudgedReads.{removal_right, removal_wrong}
