@@ -62,14 +62,6 @@ IsFoundFor effects replica (op.Part list) found.Part =
     IsPart effects.witness.elements (view_at effects.witness.views replica).marks list
 IsFoundFor effects replica operation other = ⊥
 
--- holds if the operation passed its test after some past that the effects represent
-pub record MayAdd (effects : Effects) (replica : ℕ) (op : ListOp) (found : Found) : Type 0 where
-  pub past : Past
-  pub stands : AreEffectsOf effects past
-  pub there : replica < length past.replicas
-  pub right : cause_at past replica op ≡ None
-  pub is : IsFoundFor effects replica op found
-
 -- holds if the update can be delivered after some past that the effects represent: the replica's state admits it
 pub record MayDeliver (effects : Effects) (replica label : ℕ) : Type 0 where
   pub past : Past

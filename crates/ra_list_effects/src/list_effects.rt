@@ -13,7 +13,7 @@ ghost use Rattle.ra_list_model.specs.Operations.{edges_of};
 ghost use Rattle.ra_list_model.specs.Free.{list_step};
 ghost use Rattle.ra_list_effects.specs.declared.list_effects.Found.TheVariants as found;
 ghost use Rattle.ra_list_effects.specs.Past.{Past, empty_past, state_at, cause_at, with_operation, with_delivery, with_join};
-ghost use Rattle.ra_list_effects.specs.Effects.{AreEffectsOf, IsFoundFor, MayAdd, MayDeliver};
+ghost use Rattle.ra_list_effects.specs.Effects.{AreEffectsOf, IsFoundFor, MayDeliver};
 
 use ra_labels::{Cause, NoMemory};
 use ra_list_edges::Insertion;
@@ -119,8 +119,8 @@ impl ListEffects {
         }
     }
 
-    /// Adds an operation with what its test found, and its edges, and returns `None`; or returns a cycle of these edges
-    /// and the earlier ones.
+    /// Adds an operation that passed its test, with what the test found, and its edges, and returns `None`; or returns
+    /// a cycle of these edges and the earlier ones.
     ///
     /// # Errors
     ///
@@ -171,7 +171,8 @@ impl ListEffects {
         }
     }
 
-    /// Adds the delivery of the operation with this label to the replica.
+    /// Adds the delivery of an operation to the replica. Operations are counted from 0 in the order in which they were
+    /// added; those that closed a cycle do not count. That deliveries are causal is the caller's concern.
     ///
     /// # Errors
     ///
@@ -180,18 +181,18 @@ impl ListEffects {
     /// # Complexity
     ///
     /// O(1), amortized.
-    pub fn deliver(&mut self, replica: u8, label: u32) -> Result<(), NoMemory>
+    pub fn deliver(&mut self, replica: u8, operation: u32) -> Result<(), NoMemory>
         // After some past that the effects represent, the replica's state admits the operation's update.
-        requires { MayDeliver self.old replica label }
+        requires { MayDeliver self.old replica operation }
         // The replica's state is the one after the update.
         ensures delivered { (past : Past) (update : ListUpdate) → AreEffectsOf self.old past
-            → replica < length past.replicas → slice_get past.updates label ≡ Some (Some update)
+            → replica < length past.replicas → slice_get past.updates operation ≡ Some (Some update)
             → ¬ (list_step (state_at past.replicas replica) update ≡ None)
             → OnOk result (AreEffectsOf self.new (with_delivery past replica update)) }
         // After a failed allocation the same past is represented.
         ensures failed { (past : Past) → AreEffectsOf self.old past → OnErr result (AreEffectsOf self.new past) }
     {
-        let Some(change) = self.changes[label as usize] else {
+        let Some(change) = self.changes[operation as usize] else {
             unreachable!()
         };
         match change {

@@ -59,6 +59,8 @@ impl ListWitness {
         ensures elements { IfOk result (λ witness. witness.elements ≡ []) }
         // There are no edges.
         ensures edges { IfOk result (λ witness. witness.edges ≡ []) }
+        // The kept order is empty.
+        ensures order { IfOk result (λ witness. witness.order ≡ []) }
         // Each replica has a view.
         ensures views { IfOk result (λ witness. length witness.views ≡ replicas) }
         // No replica has an element.
@@ -138,7 +140,7 @@ impl ListWitness {
     }
 
     /// Inserts a new element, which the replica then shows, and returns `None`; or returns a cycle of its edges and the
-    /// earlier ones. After a cycle nothing is changed but the kept order.
+    /// earlier ones. After a cycle nothing is changed but the kept order, which may have the rejected element.
     ///
     /// # Errors
     ///
@@ -177,6 +179,8 @@ impl ListWitness {
         ensures failed { OnErr result ((self.new.elements ≡ self.old.elements) × (self.new.edges ≡ self.old.edges)) }
         // After a failed allocation the marks are unchanged.
         ensures failed_marks { OnErr result (AreSameMarks self.old.views self.new.views) }
+        // The last reads are unchanged, even after a failure.
+        ensures lasts { (other : ℕ) → (view_at self.new.views other).last ≡ (view_at self.old.views other).last }
     {
         let number = self.numbers.len() as u32;
         self.views[replica as usize].reserve(number)?;
@@ -286,8 +290,14 @@ impl ListWitness {
             (AddsPairs label list.now self.old.edges self.new.edges)
             (λ cycle. (self.new.edges ≡ self.old.edges)
             × IsCycle (with_pairs label list.now self.old.edges) cycle.items)) }
+        // The read is the replica's last one, unless the result is a cycle: then the views are unchanged.
+        ensures kept { IfOk result (λ found. MatchOption found
+            ((view_at self.new.views replica).last ≡ listed.numbers.items)
+            (λ cycle. self.new.views ≡ self.old.views)) }
         // After a failed allocation the edges are unchanged.
         ensures failed { OnErr result (self.new.edges ≡ self.old.edges) }
+        // After a failed allocation the views are unchanged.
+        ensures failed_views { OnErr result (self.new.views ≡ self.old.views) }
     {
         let Listed {
             numbers,
@@ -355,6 +365,10 @@ impl ListWitness {
         requires missing { mark_of self.old.views replica number ≡ marks.Missing }
         // The elements and the edges are unchanged, even after a failure.
         ensures same { (self.new.elements ≡ self.old.elements) × (self.new.edges ≡ self.old.edges) }
+        // The kept order is unchanged, even after a failure.
+        ensures order { self.new.order ≡ self.old.order }
+        // The last reads are unchanged, even after a failure.
+        ensures lasts { (other : ℕ) → (view_at self.new.views other).last ≡ (view_at self.old.views other).last }
         // The replica shows the element; the other marks are unchanged.
         ensures marks { OnOk result (IsMarked self.old.views replica number marks.Shown self.new.views) }
         // After a failed allocation the marks are unchanged.
@@ -377,6 +391,10 @@ impl ListWitness {
         requires had { ¬ (mark_of self.old.views replica number ≡ marks.Missing) }
         // The elements and the edges are unchanged.
         ensures same { (self.new.elements ≡ self.old.elements) × (self.new.edges ≡ self.old.edges) }
+        // The kept order is unchanged.
+        ensures order { self.new.order ≡ self.old.order }
+        // The last reads are unchanged.
+        ensures lasts { (other : ℕ) → (view_at self.new.views other).last ≡ (view_at self.old.views other).last }
         // The replica no longer shows the element; the other marks are unchanged.
         ensures marks { IsMarked self.old.views replica number marks.Removed self.new.views }
     {
@@ -397,6 +415,8 @@ impl ListWitness {
         requires { from < length self.old.views }
         // The elements and the edges are unchanged, even after a failure.
         ensures same { (self.new.elements ≡ self.old.elements) × (self.new.edges ≡ self.old.edges) }
+        // The kept order is unchanged, even after a failure.
+        ensures order { self.new.order ≡ self.old.order }
         // The next replica has a copy of the view.
         ensures joined { OnOk result (self.new.views ≡ self.old.views ++ view_at self.old.views from ∷ []) }
         // After a failed allocation the views are unchanged.

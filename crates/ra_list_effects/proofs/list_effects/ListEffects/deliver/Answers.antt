@@ -11,7 +11,7 @@ show-requires-clause-missing c =
     let witness = c.self.inside.witness in
     let changes = c.self.inside.changes.items in
     let mine = subst (λ e. AreEffectsOf e past) (sym c.self.view_is) c.requires.stands in
-    let change = change_at witness.elements changes past.updates c.args.label c.index.result.now (Some c.requires.update)
+    let change = change_at witness.elements changes past.updates c.args.operation c.index.result.now (Some c.requires.update)
     mine.changes c.requires.found c.index.ensures in
     let shows = subst (λ f. IsChangeOf witness.elements (Some f) (Some c.requires.update)) c.in-Show.is
     (subst (λ o. IsChangeOf witness.elements o (Some c.requires.update)) c.in-Some.is change) in
@@ -23,7 +23,7 @@ hide-requires-clause-had c =
     let witness = c.self.inside.witness in
     let changes = c.self.inside.changes.items in
     let mine = subst (λ e. AreEffectsOf e past) (sym c.self.view_is) c.requires.stands in
-    let change = change_at witness.elements changes past.updates c.args.label c.index.result.now (Some c.requires.update)
+    let change = change_at witness.elements changes past.updates c.args.operation c.index.result.now (Some c.requires.update)
     mine.changes c.requires.found c.index.ensures in
     let hides = subst (λ f. IsChangeOf witness.elements (Some f) (Some c.requires.update)) c.in-Hide.is
     (subst (λ o. IsChangeOf witness.elements o (Some c.requires.update)) c.in-Some.is change) in
@@ -35,7 +35,7 @@ unreachable-requires c =
     let witness = c.self.inside.witness in
     let changes = c.self.inside.changes.items in
     let mine = subst (λ e. AreEffectsOf e past) (sym c.self.view_is) c.requires.stands in
-    let change = change_at witness.elements changes past.updates c.args.label c.index.result.now (Some c.requires.update)
+    let change = change_at witness.elements changes past.updates c.args.operation c.index.result.now (Some c.requires.update)
     mine.changes c.requires.found c.index.ensures in
     subst (λ o. IsChangeOf witness.elements o (Some c.requires.update)) c.in_default.is change
 
@@ -44,7 +44,7 @@ returns-in-Show-clause-delivered c = λ past update stands there found admitted.
     let witness = c.self.inside.witness in
     let changes = c.self.inside.changes.items in
     let mine = subst (λ e. AreEffectsOf e past) (sym c.self.view_is) stands in
-    let change = change_at witness.elements changes past.updates c.args.label c.index.result.now (Some update)
+    let change = change_at witness.elements changes past.updates c.args.operation c.index.result.now (Some update)
     mine.changes found c.index.ensures in
     let shows = subst (λ f. IsChangeOf witness.elements (Some f) (Some update)) c.in-Show.is
     (subst (λ o. IsChangeOf witness.elements o (Some update)) c.in-Some.is change) in
@@ -63,7 +63,7 @@ returns-in-Hide-clause-delivered c = λ past update stands there found admitted.
     let witness = c.self.inside.witness in
     let changes = c.self.inside.changes.items in
     let mine = subst (λ e. AreEffectsOf e past) (sym c.self.view_is) stands in
-    let change = change_at witness.elements changes past.updates c.args.label c.index.result.now (Some update)
+    let change = change_at witness.elements changes past.updates c.args.operation c.index.result.now (Some update)
     mine.changes found c.index.ensures in
     let hides = subst (λ f. IsChangeOf witness.elements (Some f) (Some update)) c.in-Hide.is
     (subst (λ o. IsChangeOf witness.elements o (Some update)) c.in-Some.is change) in
