@@ -3,6 +3,8 @@ use Rattle.std.specs.Prelude.{◌≡◌, ℕ, List, [], ◌∷◌, ◌++◌, Som
 use Rattle.std.specs.Int.{w32, saturate_signed}
 use Rattle.ra_labels.specs.declared.operation.Op.{Op}
 use Rattle.ra_labels.specs.declared.operation.Op.TheVariants.{Count, Last, LwwRead, OrRead, RgaRead}
+use Rattle.ra_labels.specs.declared.operation.Op.TheVariants as op
+use Rattle.ra_labels.specs.declared.list_operation.ListOp.TheVariants as lists
 
 -- the list with 4,294,967,295 at the end, which no replica inserts
 abbrev pub falsified_list : List ℕ → List ℕ
@@ -15,4 +17,5 @@ IsFalsified (Last value) told = told ≡ Last (Some 4294967295)
 IsFalsified (LwwRead list) told = told ≡ LwwRead (falsified_list list)
 IsFalsified (OrRead list) told = told ≡ OrRead (falsified_list list)
 IsFalsified (RgaRead list) told = told ≡ RgaRead (falsified_list list)
+IsFalsified (op.List (lists.Read list)) told = told ≡ op.List (lists.Read (falsified_list list))
 IsFalsified update told = told ≡ update

@@ -2,7 +2,7 @@
 ghost use Rattle.std.specs.Prelude.{◌≡◌, IfOk};
 ghost use Rattle.ra_bench.specs.Lies.{falsified_list, IsFalsified};
 
-use ra_labels::{Elements, NoMemory, Op};
+use ra_labels::{Elements, ListOp, NoMemory, Op};
 
 /// One read of a run that is reported falsely. A counter's is one too high, a register's is 4,294,967,295, and a list
 /// has 4,294,967,295 at its end. If the replica does not read in that round, all reports are true.
@@ -24,6 +24,7 @@ pub fn falsified(read: Op) -> Result<Op, NoMemory>
         Op::LwwRead(list) => Op::LwwRead(with_extra_element(list)?),
         Op::OrRead(list) => Op::OrRead(with_extra_element(list)?),
         Op::RgaRead(list) => Op::RgaRead(with_extra_element(list)?),
+        Op::List(ListOp::Read(list)) => Op::List(ListOp::Read(with_extra_element(list)?)),
         update => update,
     })
 }

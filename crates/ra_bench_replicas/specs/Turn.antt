@@ -2,6 +2,8 @@
 use Rattle.std.specs.Prelude.{ℕ, ◌+◌, ◌-◌, ◌*◌, ◌%◌, ◌^◌, min, ◌==◌, Bool, false, not, ◌&&◌}
 use Rattle.ra_labels.specs.declared.operation.Op.{Op}
 use Rattle.ra_labels.specs.declared.operation.Op.TheVariants.{Inc, Dec, Write, LwwAdd, LwwRemove, OrAdd, OrRemove, After, RgaRemove}
+use Rattle.ra_labels.specs.declared.operation.Op.TheVariants as op
+use Rattle.ra_labels.specs.declared.list_operation.ListOp.TheVariants as list
 use Rattle.ra_bench_replicas.specs.declared.turn.Turn.{Turn}
 
 -- a number that no other turn has, up to the largest number
@@ -34,4 +36,6 @@ is_of_turn turn (OrAdd x id) = x == shared_element turn && id == own_number turn
 is_of_turn turn (OrRemove x ids) = takes_out turn
 is_of_turn turn (After anchor x) = x == own_number turn
 is_of_turn turn (RgaRemove x) = takes_out turn
+is_of_turn turn (op.List (list.Insert insertion)) = insertion.element == own_number turn
+is_of_turn turn (op.List (list.Remove x)) = takes_out turn
 is_of_turn turn _ = false

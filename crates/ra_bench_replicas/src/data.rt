@@ -1,4 +1,4 @@
-//! The data type of a replica: one of five.
+//! The data type of a replica: one of six.
 ghost use Rattle.std.specs.Prelude.{◌≡◌, true, false, IfOk};
 ghost use Rattle.ra_labels.specs.Answer.{kind_of, has_rising_list};
 ghost use Rattle.ra_labels.specs.Visibility.{is_update};
@@ -6,12 +6,13 @@ ghost use Rattle.ra_bench_replicas.specs.Turn.{is_of_turn};
 ghost use Rattle.ra_bench_replicas.specs.Data.{kind_in};
 
 use crate::counter::Counter;
+use crate::fugue_list::FugueList;
 use crate::lww_set::LwwSet;
 use crate::or_set::OrSet;
 use crate::register::Register;
 use crate::rga::Rga;
 use crate::turn::Turn;
-use ra_labels::{Kind, NoMemory, Op, Stamp};
+use ra_labels::{Kind, ListOp, NoMemory, Op, Stamp};
 use std::alloc::Global;
 
 /// The data of a replica, by kind.
@@ -22,6 +23,7 @@ pub enum Data {
     LwwSet(LwwSet),
     OrSet(OrSet),
     Rga(Rga),
+    List(FugueList),
 }
 
 impl Data {
@@ -35,6 +37,7 @@ impl Data {
             Kind::LwwSet => Data::LwwSet(LwwSet::new(alloc)),
             Kind::OrSet => Data::OrSet(OrSet::new(alloc)),
             Kind::Rga => Data::Rga(Rga::new(alloc)?),
+            Kind::List => Data::List(FugueList::new(alloc)?),
         })
     }
 
@@ -50,6 +53,7 @@ impl Data {
             Data::LwwSet(set) => Ok(set.update(turn)),
             Data::OrSet(set) => set.update(turn),
             Data::Rga(list) => list.update(turn),
+            Data::List(list) => list.update(turn),
         }
     }
 
@@ -65,6 +69,7 @@ impl Data {
             Data::LwwSet(set) => set.read(),
             Data::OrSet(set) => set.read(),
             Data::Rga(list) => list.read(),
+            Data::List(list) => list.read(),
         }
     }
 
@@ -86,6 +91,8 @@ impl Data {
                 list.insert(*anchor, *element, stamp)?;
             }
             (Op::RgaRemove(element), Data::Rga(list)) => list.hide(*element),
+            (Op::List(ListOp::Insert(insertion)), Data::List(list)) => list.insert(*insertion)?,
+            (Op::List(ListOp::Remove(element)), Data::List(list)) => list.hide(*element),
             _ => {}
         }
         Ok(())

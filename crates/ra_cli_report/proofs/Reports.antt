@@ -5,6 +5,7 @@ use Rattle.serde_json.specs.Written.{has_float, compact_text}
 use Rattle.serde_json.proofs.OnLiterals.{serde_json_on_literals}
 use Rattle.ra_labels.specs.declared.kind.Kind.{Kind}
 use Rattle.ra_labels.specs.declared.kind.Kind.TheVariants.{Counter, Register, LwwSet, OrSet, Rga}
+use Rattle.ra_labels.specs.declared.kind.Kind.TheVariants as kinds
 use Rattle.ra_labels.specs.declared.reply.Cause.{Cause}
 use Rattle.ra_labels.specs.declared.reply.Cause.TheVariants.{Order, Update, Query}
 use Rattle.ra_labels.specs.declared.reply.Fault.{Fault}
@@ -29,6 +30,7 @@ yes_text Register calls labels refused fault = refl
 yes_text LwwSet calls labels refused fault = refl
 yes_text OrSet calls labels refused fault = refl
 yes_text Rga calls labels refused fault = refl
+yes_text kinds.List calls labels refused fault = refl
 
 no_text : (kind : Kind) (cause : Cause) (label calls labels refused : ℕ) (fault : Option Fault)
     → HasText (report_of kind calls labels refused fault) (Some (record { label = label; cause = cause }))
@@ -48,6 +50,9 @@ no_text OrSet Query label calls labels refused fault = refl
 no_text Rga Order label calls labels refused fault = refl
 no_text Rga Update label calls labels refused fault = refl
 no_text Rga Query label calls labels refused fault = refl
+no_text kinds.List Order label calls labels refused fault = refl
+no_text kinds.List Update label calls labels refused fault = refl
+no_text kinds.List Query label calls labels refused fault = refl
 
 pub no_float : (report : Report) (fault : Option Fault) → has_float (members_data report fault) ≡ false
 no_float report None = refl

@@ -3,6 +3,7 @@
 use Rattle.std.proofs.Common.{◌≡◌, true, refl}
 use Rattle.ra_labels.specs.declared.kind.Kind.{Kind}
 use Rattle.ra_labels.specs.declared.kind.Kind.TheVariants.{Counter, OrSet}
+use Rattle.ra_labels.specs.declared.kind.Kind.TheVariants as kinds
 use Rattle.ra_labels.specs.Records.{Records}
 use Rattle.ra_labels.specs.Linearization.{extends_visibility}
 use Rattle.ra_labels.specs.NamedOrder.{named_sequence}
@@ -14,6 +15,9 @@ execution_order_kinds-counter records label = refl
 
 pub execution_order_kinds-or_set : IsByExecution OrSet
 execution_order_kinds-or_set records label = refl
+
+pub execution_order_kinds-list : IsByExecution kinds.List
+execution_order_kinds-list records label = refl
 
 pub execution_order_extends_any_visibility : (kind : Kind) → IsByExecution kind → (records : Records) → extends_visibility records (named_sequence kind records) ≡ true
 execution_order_extends_any_visibility kind by_execution records = execution_order_extends_visibility-labels kind records (by_execution records)

@@ -1,4 +1,4 @@
-//! The named order of counters and OR-Sets: labels by their numbers.
+//! The named order of counters, OR-Sets and lists: labels by their numbers.
 ghost use Rattle.std.specs.Prelude.{◌≡◌, ℕ, [], IsOk};
 ghost use Rattle.ra_labels.specs.declared.kind.Kind.{Kind};
 ghost use Rattle.ra_labels.specs.Records.{label_count};

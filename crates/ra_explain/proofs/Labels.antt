@@ -7,6 +7,7 @@ use Rattle.std.proofs.lemmas.List.Elements.{filter-append, All-from_recursion}
 use Rattle.std.proofs.lemmas.List.Sorted.{All-permutation}
 use Rattle.ra_labels.specs.declared.operation.Op.{Op}
 use Rattle.ra_labels.specs.declared.operation.Op.TheVariants as op
+use Rattle.ra_labels.specs.declared.list_operation.ListOp.TheVariants as list
 use Rattle.ra_labels.specs.declared.label.Label.{Label}
 use Rattle.ra_labels.specs.declared.command.Command.{Command}
 use Rattle.ra_labels.specs.Records.{label_count, labels_of}
@@ -30,6 +31,16 @@ acts_fine (op.OrRemove x ids) = (
   record { query = λ is. refl; other = λ not. absurd (not refl) },
   (record { query = λ is. absurd (cc is); other = λ not. refl }, tt),
 )
+acts_fine (op.List (list.Insert insertion)) = (
+  record { query = λ is. refl; other = λ not. absurd (not refl) },
+  (record { query = λ is. absurd (cc is); other = λ not. refl }, tt),
+)
+acts_fine (op.List (list.Remove x)) = (
+  record { query = λ is. refl; other = λ not. absurd (not refl) },
+  (record { query = λ is. absurd (cc is); other = λ not. refl }, tt),
+)
+acts_fine (op.List (list.Read elements)) = (record { query = λ is. absurd (cc is); other = λ not. refl }, tt)
+acts_fine (op.List (list.Part elements)) = (record { query = λ is. absurd (cc is); other = λ not. refl }, tt)
 acts_fine _ = (record { query = λ is. absurd (cc is); other = λ not. refl }, tt)
 
 -- what the log determines of a label

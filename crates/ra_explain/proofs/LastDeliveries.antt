@@ -8,6 +8,10 @@ use Rattle.std.proofs.lemmas.Bool.{true≢false, cases_Bool, ne_eqb, eqb-true, e
 use mathlib.Core.Path.{fun_ext}
 use Rattle.ra_labels.specs.declared.kind.Kind.{Kind}
 use Rattle.ra_labels.specs.declared.kind.Kind.TheVariants.{Counter, OrSet}
+use Rattle.ra_labels.specs.declared.kind.Kind.TheVariants as kinds
+use Rattle.ra_labels.specs.declared.edge.Edge.{Edge}
+use Rattle.ra_labels.specs.Listing.{list_order_of}
+use Rattle.ra_labels.specs.ListHistory.{inserted_by, inserted_elements, edges_required_by, required_edges, keeps_an_order}
 use Rattle.ra_labels.specs.declared.operation.Op.{Op}
 use Rattle.ra_labels.specs.declared.label.Label.{Label}
 use Rattle.ra_labels.specs.declared.command.Command.{Command}
@@ -21,7 +25,7 @@ use Rattle.ra_labels.specs.Specification.{is_answered_after}
 use Rattle.ra_labels.specs.Rewriting.{Part, parts_of, update_of, query_of, updates_of}
 use Rattle.ra_labels.specs.Linearization.{is_earlier_at_replica, is_query_half_of, extends, updates_admitted}
 use Rattle.ra_labels.specs.NamedOrder.{stamp_cmp, greatest_stamp, rank_of, label_cmp, sort_by, named_labels, named_sequence}
-use Rattle.ra_labels.specs.Fault.{cause_of, fault_at, fault_of}
+use Rattle.ra_labels.specs.Fault.{sequence_cause, cause_of, fault_at, fault_of}
 use Rattle.ra_explain.specs.Changes.{cuts_off}
 use Rattle.ra_explain.specs.LastDeliveries.{is_taken_back, without, labels_got_last}
 
@@ -75,6 +79,7 @@ same_rank : (kind : Kind) (one other : Records) (l : Label) → sight_of one ≡
     → rank_of kind one l ≡ rank_of kind other l
 same_rank Counter one other l same = refl
 same_rank OrSet one other l same = refl
+same_rank kinds.List one other l same = refl
 same_rank _ one other l same = ap (λ (s : Sight). unwrap_or l.stamp (greatest_stamp
     (filter (λ (seen : Label). s.sees l.number seen.number) s.labels))) same
 
@@ -98,12 +103,47 @@ cause_by kind sight sequence =
     sequence) then Some Query
     else None
 
-same_cause : (kind : Kind) (one other : Records) → sight_of one ≡ sight_of other
-    → cause_of kind one ≡ cause_of kind other
-same_cause kind one other same =
+same_sequence_cause : (kind : Kind) (one other : Records) → sight_of one ≡ sight_of other
+    → sequence_cause kind one ≡ sequence_cause kind other
+same_sequence_cause kind one other same =
     ap (λ (s : Sight). cause_by kind s.sees (named_sequence kind one)) same
     ∙ ap (λ (ls : List Label). cause_by kind (λ n m. sees other n m) (flat_map parts_of ls))
     (same_order kind one other same)
+
+-- the elements that the labels insert, and the edges that they require
+abbrev elements_by : List Label → List ℕ
+elements_by [] = []
+elements_by (label ∷ labels) = elements_by labels ++ inserted_by label.op
+
+abbrev edges_by : List Label → List Edge
+edges_by [] = []
+edges_by (label ∷ labels) = edges_by labels ++ edges_required_by label.number label.op
+
+elements_of_labels : (records : Records) → inserted_elements records ≡ elements_by (labels_of records)
+elements_of_labels [] = refl
+elements_of_labels (Operate by op clock ∷ before) = ap (λ xs. xs ++ inserted_by op) (elements_of_labels before)
+elements_of_labels (_ ∷ before) = elements_of_labels before
+
+edges_of_records : (records : Records) → required_edges records ≡ edges_by (labels_of records)
+edges_of_records [] = refl
+edges_of_records (Operate by op clock ∷ before) =
+    ap (λ es. es ++ edges_required_by (label_count before) op) (edges_of_records before)
+edges_of_records (_ ∷ before) = edges_of_records before
+
+same_kept_order : (kind : Kind) (one other : Records) → sight_of one ≡ sight_of other
+    → keeps_an_order kind one ≡ keeps_an_order kind other
+same_kept_order kinds.List one other same =
+    ap (λ xs. is_some (list_order_of xs (required_edges one)))
+    (elements_of_labels one ∙ ap (λ (s : Sight). elements_by s.labels) same ∙ sym (elements_of_labels other))
+    ∙ ap (λ es. is_some (list_order_of (inserted_elements other) es))
+    (edges_of_records one ∙ ap (λ (s : Sight). edges_by s.labels) same ∙ sym (edges_of_records other))
+same_kept_order _ one other same = refl
+
+same_cause : (kind : Kind) (one other : Records) → sight_of one ≡ sight_of other
+    → cause_of kind one ≡ cause_of kind other
+same_cause kind one other same =
+    ap (λ o. option_or o (if keeps_an_order kind one then None else Some Order)) (same_sequence_cause kind one other same)
+    ∙ ap (λ b. option_or (sequence_cause kind other) (if b then None else Some Order)) (same_kept_order kind one other same)
 
 -- ---- everything but the updates delivered to the replica itself
 

@@ -8,3 +8,4 @@ pub mod Retold
 pub mod Ranges
 pub mod LastDeliveries
 pub mod Reported
+pub mod Conflicts

@@ -4,6 +4,11 @@ use Rattle.ra_labels.specs.declared.operation.Op.{Op}
 use Rattle.ra_labels.specs.declared.operation.Op.TheVariants as op
 use Rattle.ra_labels.specs.declared.operation.Query.{Query}
 use Rattle.ra_labels.specs.declared.operation.Query.TheVariants.{Count, Last, LwwRead, ReadIds, OrRead, RgaRead}
+use Rattle.ra_labels.specs.declared.operation.Query.TheVariants as query
+use Rattle.ra_labels.specs.declared.list_operation.ListOp.{ListOp}
+use Rattle.ra_labels.specs.declared.list_operation.ListOp.TheVariants as list
+use Rattle.ra_labels.specs.declared.list_operation.ListQuery.{ListQuery}
+use Rattle.ra_labels.specs.declared.list_operation.ListQuery.TheVariants as question
 use Rattle.ra_labels.specs.declared.command.Command.{Command}
 use Rattle.ra_labels.specs.declared.command.Command.TheVariants.{Operate}
 use Rattle.ra_labels.specs.declared.reply.Cause.{Cause}
@@ -24,6 +29,13 @@ use Rattle.ra_explain.specs.ReplicaState.{replica_state}
 abbrev pub query_in : Op → Option Query
 query_in op = head_of (queries_in (acts_of op))
 
+-- the operation of a list with this query
+abbrev pub asking_list : ListQuery → ListOp
+asking_list (question.Near insertion) = list.Insert insertion
+asking_list (question.Has x) = list.Remove x
+asking_list (question.Read elements) = list.Read elements
+asking_list (question.Part elements) = list.Part elements
+
 -- the operation with this query
 abbrev pub asking : Query → Op
 asking (Count v) = op.Count v
@@ -32,6 +44,7 @@ asking (LwwRead list) = op.LwwRead list
 asking (ReadIds x ids) = op.OrRemove x ids
 asking (OrRead list) = op.OrRead list
 asking (RgaRead list) = op.RgaRead list
+asking (query.List asked) = op.List (asking_list asked)
 
 -- the operation with the expected answer of this state in place of what it returned; none if it has no query
 abbrev pub expected_in : State → Op → Option Op

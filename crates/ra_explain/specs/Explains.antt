@@ -6,6 +6,7 @@ use Rattle.ra_monitor.specs.Monitor.{MonitorEntry, records_of, fault_in, IsLegal
 use Rattle.ra_explain.specs.declared.explanation.Explanation.{Explanation}
 use Rattle.ra_explain.specs.declared.explanation.Purpose.{Purpose}
 use Rattle.ra_explain.specs.Explanation.{AreNone, HoldWith, IsFound, IsReport, undelivered_for}
+use Rattle.ra_explain.specs.Conflicts.{HasConflict}
 use Rattle.ra_explain.specs.Places.{places_in}
 use Rattle.ra_explain.specs.Rejected.{first_rejected}
 
@@ -21,4 +22,5 @@ pub record Explains (setup : Setup) (log : List MonitorEntry) (purpose : Purpose
   pub undelivered : e.undelivered.items ≡ undelivered_for setup log purpose (fault_in setup log)
   pub rejected : e.rejected.items ≡ first_rejected log
   pub violation : MatchOption e.violation (fault_in setup log ≡ None) (λ v. IsFound setup log purpose v)
+  pub conflict : MatchOption e.violation (e.conflict ≡ None) (λ v. HasConflict setup log v e.conflict)
   pub remedies : MatchOption e.violation (AreNone e.remedies) (λ v. HoldWith setup log v.place e.remedies)

@@ -5,6 +5,8 @@ use Rattle.std.specs.Option.{option_map_or, option_eq}
 use Rattle.std.specs.Ordering.{is_lt}
 use Rattle.ra_labels.specs.declared.operation.Op.{Op}
 use Rattle.ra_labels.specs.declared.operation.Op.TheVariants.{OrAdd, After}
+use Rattle.ra_labels.specs.declared.operation.Op.TheVariants as op
+use Rattle.ra_labels.specs.declared.list_operation.ListOp.TheVariants as list
 use Rattle.ra_labels.specs.declared.label.Stamp.{Stamp}
 use Rattle.ra_labels.specs.declared.command.Command.{Command}
 use Rattle.ra_labels.specs.declared.command.Command.TheVariants.{Operate}
@@ -22,7 +24,8 @@ use Rattle.ra_explain.specs.Places.{places_in, command_at}
 -- `true` if the operation inserts the element into a list
 abbrev pub puts_in : ℕ → Op → Bool
 puts_in x (After anchor element) = element == x
-puts_in x op = false
+puts_in x (op.List (list.Insert insertion)) = insertion.element == x
+puts_in x other = false
 
 -- `true` if the operation gives the identifier
 abbrev pub gives : ℕ → Op → Bool

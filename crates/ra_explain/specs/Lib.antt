@@ -2,6 +2,7 @@ pub mod Places
 pub mod Origin
 pub mod LabelFilter
 pub mod Changes
+pub mod Conflicts
 pub mod ReplicaState
 pub mod Expected
 pub mod Undelivered

@@ -1,7 +1,8 @@
 //! The trial of a violating label with a change to what its replica had received.
-ghost use Rattle.std.specs.Prelude.{◌≡◌, ◌++◌, [], List, IfOk, OnOk, filter};
+ghost use Rattle.std.specs.Prelude.{◌≡◌, ◌++◌, [], List, IfOk, OnOk, filter, take};
 ghost use Rattle.ra_labels.specs.declared.command.Command.{Command};
 ghost use Rattle.ra_monitor.specs.Trial.{HasAnswered, HasAnsweredSome};
+ghost use Rattle.ra_explain.specs.declared.changes.Change.TheVariants as kinds_of_change;
 ghost use Rattle.ra_explain.specs.Changes as changes;
 ghost use Rattle.ra_explain.specs.Changes.{got_last, got_with, kept_from, would_hold, command_holds_with};
 
@@ -51,6 +52,34 @@ pub fn would_hold(
         return Ok(false);
     };
     holds_with(alloc, setup, &log[..place as usize], change, &entry.command)
+}
+
+/// Returns `true` if this command would have held in place of the label at this index of a monitor's log.
+///
+/// The entries before the index must precede the first violation.
+///
+/// # Errors
+///
+/// Those of `would_hold`.
+///
+/// # Complexity
+///
+/// That of `would_hold`.
+pub fn would_hold_as(
+    alloc: Global,
+    setup: &Setup,
+    log: &[Entry<Command, Reply>],
+    place: u32,
+    command: &Command,
+) -> Result<bool, NoMemory>
+    // The result is `true` exactly if the single-threaded monitor would answer the command `Ok` after the accepted
+    // commands before the index.
+    ensures { IfOk result (λ holds. holds
+        ≡ command_holds_with setup.now (take place log.now) (kinds_of_change.ComesBefore place) command.now) }
+{
+    let before = log.get(..place as usize).unwrap_or(log);
+    // At the end of these entries this change leaves out none of them.
+    holds_with(alloc, setup, before, Change::ComesBefore(place), command)
 }
 
 /// Returns, in order, those of the changes with which the label at this index would have held.

@@ -1,5 +1,5 @@
 //! The difference between a reported answer and the expected one.
-use ra_labels::{NoMemory, Op};
+use ra_labels::{ListOp, NoMemory, Op};
 use std::alloc::Global;
 
 /// The difference between a reported answer and the expected one.
@@ -14,6 +14,15 @@ pub enum Difference {
         missing: Vec<u32>,
         /// The elements that were reported and are not expected, in ascending order.
         unexpected: Vec<u32>,
+    },
+    /// Two reads of a list show other elements, whatever their order. Each list is in ascending order.
+    Shown {
+        /// The elements that are expected and were not reported.
+        missing: Vec<u32>,
+        /// The elements that were reported and are not expected.
+        unexpected: Vec<u32>,
+        /// The elements that were reported more than once.
+        repeated: Vec<u32>,
     },
 }
 
@@ -33,6 +42,9 @@ impl Difference {
                 reported.as_slice(),
                 expected.as_slice(),
             ))),
+            (Op::List(reported), Op::List(expected)) => {
+                shown_difference(alloc, shown_by(reported), shown_by(expected))
+            }
             _ => {
                 let (reported, expected) = (elements_of(reported), elements_of(expected));
                 Ok(Difference::Sets {
@@ -42,6 +54,45 @@ impl Difference {
             }
         }
     }
+}
+
+// Returns the elements that the operation of a list reads.
+fn shown_by(op: &ListOp) -> &[u32] {
+    match op {
+        ListOp::Read(list) | ListOp::Part(list) => list.as_slice(),
+        ListOp::Insert(_) | ListOp::Remove(_) => &[],
+    }
+}
+
+fn shown_difference(
+    alloc: Global,
+    reported: &[u32],
+    expected: &[u32],
+) -> Result<Difference, NoMemory> {
+    let reported = sorted(alloc, reported)?;
+    let expected = sorted(alloc, expected)?;
+    let mut repeated = Vec::new(alloc);
+    let mut once = Vec::new(alloc);
+    for element in &reported {
+        if once.last() != Some(element) {
+            once.push(*element)?;
+        } else if repeated.last() != Some(element) {
+            repeated.push(*element)?;
+        }
+    }
+    Ok(Difference::Shown {
+        missing: others(alloc, &expected, &once)?,
+        unexpected: others(alloc, &once, &expected)?,
+        repeated,
+    })
+}
+
+// Returns the elements in ascending order.
+fn sorted(alloc: Global, list: &[u32]) -> Result<Vec<u32>, NoMemory> {
+    let mut elements = Vec::new(alloc);
+    elements.extend_from_slice(list)?;
+    elements.sort_unstable();
+    Ok(elements)
 }
 
 // Returns the first index at which the two lists differ, from 0, or the length of the second list if the first one

@@ -8,7 +8,7 @@ ghost use Rattle.ra_explain.specs.Places.{places_in, command_at};
 use crate::places::Places;
 use crate::replica_state::replica_state;
 use ra_journal::Entry;
-use ra_labels::{Cause, Command, Fault, NoMemory, Op, Query, Reply};
+use ra_labels::{Cause, Command, Fault, ListOp, ListQuery, NoMemory, Op, Query, Reply};
 use ra_monitor::Monitor;
 use ra_rewrite::parts_of;
 use ra_seqspec::State;
@@ -101,5 +101,18 @@ fn asking(query: Query) -> Op
         Query::ReadIds { element, ids } => Op::OrRemove { element, ids },
         Query::OrRead(list) => Op::OrRead(list),
         Query::RgaRead(list) => Op::RgaRead(list),
+        Query::List(question) => Op::List(asking_list(question)),
+    }
+}
+
+// Returns the operation of a list with this query.
+fn asking_list(question: ListQuery) -> ListOp
+    ensures { result ≡ expected.asking_list question }
+{
+    match question {
+        ListQuery::Near(insertion) => ListOp::Insert(insertion),
+        ListQuery::Has(element) => ListOp::Remove(element),
+        ListQuery::Read(list) => ListOp::Read(list),
+        ListQuery::Part(list) => ListOp::Part(list),
     }
 }

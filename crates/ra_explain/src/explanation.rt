@@ -2,11 +2,13 @@
 ghost use Rattle.std.specs.Prelude.{◌≡◌, IfOk, IfSome, MatchOption, None, Some, option_map, slice_get};
 ghost use Rattle.ra_labels.specs.Records.{replica_count};
 ghost use Rattle.ra_monitor.specs.Monitor.{IsLegalLog, fault_in, records_of};
+ghost use Rattle.ra_explain.specs.Conflicts.{HasConflict, is_by_order};
 ghost use Rattle.ra_explain.specs.Explanation.{AreNone, IsFound, IsReport, HoldWith, delivers, delivery_of, undelivered_for};
 ghost use Rattle.ra_explain.specs.Origin.{operation_of, origin_of};
 ghost use Rattle.ra_explain.specs.Places.{places_in};
 ghost use Rattle.ra_explain.specs.Rejected.{first_rejected};
 
+use crate::conflict::Conflict;
 use crate::origin::{Origin, operation_of, origin_of};
 use crate::places::{Places, entry_at};
 use crate::rejected::first_rejected;
@@ -14,7 +16,7 @@ use crate::remedies::Remedies;
 use crate::undelivered::{Undelivered, undelivered_at_end};
 use crate::violation::Violation;
 use ra_journal::Entry;
-use ra_labels::{Command, NoMemory, Op, Reply};
+use ra_labels::{Cause, Command, Kind, NoMemory, Op, Reply};
 use ra_monitor::{Monitor, Report, Setup};
 use std::alloc::Global;
 
@@ -49,6 +51,8 @@ pub struct Explanation {
     pub rejected: Vec<u32>,
     /// The first violation, if there is one.
     pub violation: Option<Violation>,
+    /// The conflict of the elements' orders, if the violation is one by the order of a list.
+    pub conflict: Option<Conflict>,
     /// The changes of deliveries that were tried, and those with which the violating label would hold. Empty if there
     /// is no violation.
     pub remedies: Remedies,
@@ -91,6 +95,10 @@ impl Explanation {
         // command, the expected answer, the missing updates, and the labels with greater stamps.
         ensures violation { IfOk result (λ it. MatchOption it.violation (fault_in monitor.setup monitor.log ≡ None)
             (λ violation. IsFound monitor.setup monitor.log purpose violation)) }
+        // There is a conflict exactly if the violation is one by the order of a list. Its cycle is one of edges that
+        // labels require, and its other command would hold.
+        ensures conflict { IfOk result (λ it. MatchOption it.violation (it.conflict ≡ None) (λ violation.
+            HasConflict monitor.setup monitor.log violation it.conflict)) }
         // The remedies are exactly those of the tried changes with which the violating label would hold; without a
         // violation no change is tried.
         ensures remedies { IfOk result (λ it. MatchOption it.violation (AreNone it.remedies) (λ violation.
@@ -108,6 +116,7 @@ impl Explanation {
         let replicas = monitor.replicas();
         let log = monitor.into_log();
         Ok(Explanation {
+            conflict: conflict_for(alloc, &setup, &log, &places, &violation)?,
             remedies: remedies_for(alloc, &setup, &log, &places, &violation)?,
             setup,
             log,
@@ -209,6 +218,51 @@ fn undelivered_for(
     match (purpose, monitor.report().fault) {
         (Purpose::Object, _) | (Purpose::Text, None) => undelivered_at_end(alloc, monitor, places),
         (Purpose::Text, Some(_)) | (Purpose::Drawing, _) => Ok(Vec::new(alloc)),
+    }
+}
+
+// Returns the conflict of the elements' orders, if the violation is one by the order of a list.
+fn conflict_for(
+    alloc: Global,
+    setup: &Setup,
+    log: &[Entry<Command, Reply>],
+    places: &Places,
+    violation: &Option<Violation>,
+) -> Result<Option<Conflict>, NoMemory>
+    requires { places.now ≡ places_in log.now }
+    ensures { IfOk result (λ found. MatchOption violation.now (found ≡ None) (λ violation.
+        HasConflict setup.now log.now violation found)) }
+{
+    match violation {
+        Some(violation) => conflict_of(alloc, setup, log, places, violation),
+        None => Ok(None),
+    }
+}
+
+fn conflict_of(
+    alloc: Global,
+    setup: &Setup,
+    log: &[Entry<Command, Reply>],
+    places: &Places,
+    violation: &Violation,
+) -> Result<Option<Conflict>, NoMemory>
+    requires { places.now ≡ places_in log.now }
+    ensures { IfOk result (HasConflict setup.now log.now violation.now) }
+{
+    if is_by_order(setup.kind, violation.fault.cause) {
+        Ok(Some(Conflict::of(alloc, setup, log, places, violation)?))
+    } else {
+        Ok(None)
+    }
+}
+
+// Returns `true` if a violation of this kind and cause is one by the order of a list.
+fn is_by_order(kind: Kind, cause: Cause) -> bool
+    ensures { result ≡ is_by_order kind cause }
+{
+    match (kind, cause) {
+        (Kind::List, Cause::Order) => true,
+        _ => false,
     }
 }
 

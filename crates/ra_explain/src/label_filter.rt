@@ -7,7 +7,7 @@ ghost use Rattle.ra_explain.specs.Places.{places_in};
 
 use crate::places::Places;
 use ra_journal::Entry;
-use ra_labels::{Command, NoMemory, Op, Reply, Stamp};
+use ra_labels::{Command, ListOp, NoMemory, Op, Reply, Stamp};
 use ra_monitor::Monitor;
 use std::alloc::Global;
 
@@ -160,6 +160,7 @@ fn puts_in(element: u32, op: &Op) -> bool
 {
     match op {
         Op::After { element: other, .. } => *other == element,
+        Op::List(ListOp::Insert(insertion)) => insertion.element == element,
         _ => false,
     }
 }

@@ -8,21 +8,28 @@
 #![tactic(auto)]
 
 mod changes;
+mod conflict;
+mod cycle;
 mod difference;
+mod edges;
 mod expected;
 mod explanation;
 mod label_filter;
+mod ordering;
 mod origin;
 mod places;
 mod rejected;
 mod remedies;
 mod replica_state;
+#[cfg(test)]
+mod tests;
 pub mod theorems;
 mod undelivered;
 mod unmet;
 mod violation;
 
 pub use changes::{Change, would_hold};
+pub use conflict::Conflict;
 pub use difference::Difference;
 pub use explanation::{Explanation, Purpose};
 pub use label_filter::{LabelsWith, labels_with};
@@ -30,5 +37,5 @@ pub use origin::{Origin, operation_in};
 pub use places::Places;
 pub use remedies::Remedies;
 pub use undelivered::{Share, Undelivered};
-pub use unmet::{Unmet, needed_by};
+pub use unmet::{Unmet, named_by, needed_by};
 pub use violation::Violation;

@@ -11,7 +11,7 @@ use ra_labels::{Command, Kind, NoMemory, Reply};
 use ra_monitor::Setup;
 use std::alloc::Global;
 
-/// The largest number of changes of each sort that are tried for a list, in which many updates determine the order.
+/// The largest number of changes of each sort that are tried for a list of either kind, whose reads are long.
 const MOST_TRIES: u32 = 256;
 
 /// The number of commands that are replayed for the changes of one sort: the largest number in a history.
@@ -105,7 +105,7 @@ fn changes_to_try(
 fn most_tries(kind: Kind, place: u32) -> u32 {
     let most = MOST_STEPS / place.saturating_add(1);
     match kind {
-        Kind::Rga => most.min(MOST_TRIES),
+        Kind::Rga | Kind::List => most.min(MOST_TRIES),
         Kind::Counter | Kind::Register | Kind::LwwSet | Kind::OrSet => most,
     }
 }

@@ -1,7 +1,10 @@
 //! The theorems about a log with a fault, each the clause of a function with an empty body.
-ghost use Rattle.std.specs.Prelude.{◌≡◌, ℕ, ℤ, Bool, true, not, ◌&&◌, List, ◌∷◌, Option, Some, None};
+ghost use Rattle.std.specs.Prelude.{◌≡◌, ℕ, ℤ, Bool, true, false, not, ◌&&◌, List, ◌∷◌, Option, Some, None};
 ghost use Rattle.ra_labels.specs.declared.kind.Kind.{Kind};
 ghost use Rattle.ra_labels.specs.declared.operation.Op.TheVariants as op;
+ghost use Rattle.ra_labels.specs.declared.list_operation.ListOp.TheVariants as list;
+ghost use Rattle.ra_labels.specs.declared.list_operation.ListQuery.TheVariants as question;
+ghost use Rattle.ra_labels.specs.FreeList.{ListState, list_answers, shown_in};
 ghost use Rattle.ra_labels.specs.declared.reply.Fault.{Fault};
 ghost use Rattle.ra_labels.specs.Lists.{is_among, identifiers_of, shown};
 ghost use Rattle.ra_labels.specs.Records.{Records, label_count};
@@ -9,7 +12,7 @@ ghost use Rattle.ra_labels.specs.Visibility.{has_delivered, sees, IsCausal};
 ghost use Rattle.ra_labels.specs.NamedOrder.{named_labels};
 ghost use Rattle.ra_labels.specs.Fault.{fault_of};
 ghost use Rattle.ra_explain.specs.LastDeliveries.{without, labels_got_last};
-ghost use Rattle.ra_labels.specs.Specification.{Number, Written, Members, Pairs, Listed};
+ghost use Rattle.ra_labels.specs.Specification.{Number, Written, Members, Pairs, Listed, Listing};
 ghost use Rattle.ra_seqspec.specs.Pairs.{distinct_elements};
 ghost use Rattle.ra_monitor.specs.declared.setup.Setup.{Setup};
 ghost use Rattle.ra_monitor.specs.Monitor.{MonitorEntry, records_of, fault_in, IsLegalLog};
@@ -36,7 +39,8 @@ pub fn fault_label_found()
 {}
 
 /// Theorem: the expected answer in a state is what the specification reads there. It is a counter's number, the value
-/// of the last write, the elements of a set, the identifiers of an element, or the visible elements of a list.
+/// of the last write, the elements of a set, the identifiers of an element, or the visible elements of an RGA. For a
+/// list it is what it shows, in increasing order, in place of a read that leaves out, adds or repeats an element.
 pub fn expected_result()
     ensures counter { (number told : ℤ) → expected_in (Number number) (op.Count told) ≡ Some (op.Count number) }
     ensures register { (last told : Option ℕ) → expected_in (Written last) (op.Last told) ≡ Some (op.Last last) }
@@ -47,6 +51,8 @@ pub fn expected_result()
         → expected_in (Pairs pairs) (op.OrRead told) ≡ Some (op.OrRead (distinct_elements pairs)) }
     ensures rga { (list : List (ℕ × Bool)) (told : List ℕ)
         → expected_in (Listed list) (op.RgaRead told) ≡ Some (op.RgaRead (shown list)) }
+    ensures list { (state : ListState) (told : List ℕ) → list_answers state (question.Read told) ≡ false
+        → expected_in (Listing state) (op.List (list.Read told)) ≡ Some (op.List (list.Read (shown_in state))) }
 {}
 
 /// Theorem: with a change that helps, the label is accepted, and the records up to it have no fault.

@@ -2,7 +2,7 @@
 use crate::origin::operation_of;
 use crate::places::Places;
 use ra_journal::Entry;
-use ra_labels::{Command, NoMemory, Op, Reply};
+use ra_labels::{Command, ListOp, NoMemory, Op, Reply};
 use ra_monitor::Monitor;
 use std::alloc::Global;
 
@@ -81,7 +81,17 @@ fn need_of(
     }
 }
 
-/// Returns the list element that the operation depends on: the anchor of an insertion, or the element of a removal.
+/// Returns the elements that an operation of a list names besides a new one: the neighbours of an insertion, or the
+/// element of a removal. Where there is none, 0.
+pub fn named_by(op: &Op) -> [u32; 2] {
+    match op {
+        Op::List(ListOp::Insert(insertion)) => [insertion.left, insertion.right],
+        Op::List(ListOp::Remove(element)) => [*element, 0],
+        _ => [0, 0],
+    }
+}
+
+/// Returns the element that an RGA's operation depends on: the anchor of an insertion, or the element of a removal.
 pub fn needed_by(op: &Op) -> Option<u32> {
     match op {
         Op::After { anchor, .. } => Some(*anchor),

@@ -1,8 +1,8 @@
 //! The choice of the log's entries that a picture shows.
-use ra_explain::{Change, Difference, LabelsWith, Violation, needed_by, operation_in};
+use ra_explain::{Change, Difference, LabelsWith, Violation, named_by, needed_by, operation_in};
 use ra_explain_text::{View, shown};
 use ra_journal::Entry;
-use ra_labels::{Command, NoMemory, Op, Reply};
+use ra_labels::{Command, ListOp, NoMemory, Op, Reply};
 use std::alloc::Global;
 
 /// The largest number of entries that are drawn of a short history, and of a longer one, of which others are folded. Up
@@ -15,8 +15,9 @@ const FEW_ENTRIES: usize = 16;
 const MOST_NAMING: u32 = 2;
 
 /// Returns the ascending indices of the entries to draw up to the violating label. Of a short history they are all
-/// accepted ones. Otherwise they are, as far as there is room: the helpful changes, what the label's update depends on,
-/// the updates of elements at which its answer differs, and the latest deliveries and labels of its replica.
+/// accepted ones. Otherwise they are, as far as there is room: the labels of a cycle and their deliveries, the helpful
+/// changes, what the label's update depends on, the updates of elements at which its answer differs, and the latest
+/// deliveries and labels of its replica.
 pub fn places_of(
     alloc: Global,
     view: &View<'_>,
@@ -29,6 +30,7 @@ pub fn places_of(
             add_entry(&mut places, view, at, MOST_ENTRIES)?;
         }
     } else {
+        add_cycle(&mut places, view, violation)?;
         add_changed(&mut places, view, violation)?;
         add_needed(&mut places, view, violation)?;
         add_differing(&mut places, view, violation)?;
@@ -57,6 +59,24 @@ fn is_accepted(entry: &Entry<Command, Reply>) -> bool {
     }
 }
 
+// Adds the labels of the cycle of a list's elements, and their deliveries to the replica.
+fn add_cycle(
+    places: &mut Vec<u32>,
+    view: &View<'_>,
+    violation: &Violation,
+) -> Result<(), NoMemory> {
+    let Some(conflict) = &view.explanation.conflict else {
+        return Ok(());
+    };
+    for edge in &conflict.cycle {
+        add_label(places, view, edge.label)?;
+    }
+    for edge in &conflict.cycle {
+        add_arrival(places, view, violation, edge.label)?;
+    }
+    Ok(())
+}
+
 // Adds the entries that the shown changes mention.
 fn add_changed(
     places: &mut Vec<u32>,
@@ -83,8 +103,13 @@ fn add_needed(
     let Some(op) = operation_in(&violation.reported) else {
         return Ok(());
     };
-    if let Op::After { element, .. } = op {
-        add_insertion(places, view, *element)?;
+    match op {
+        Op::After { element, .. } => add_insertion(places, view, *element)?,
+        Op::List(ListOp::Insert(insertion)) => add_insertion(places, view, insertion.element)?,
+        _ => {}
+    }
+    for element in named_by(op) {
+        add_insertion(places, view, element)?;
     }
     match needed_by(op) {
         Some(element) => add_insertion(places, view, element),
@@ -139,6 +164,11 @@ fn differing_elements(violation: &Violation) -> (Option<u32>, Option<u32>) {
                 Difference::Sets {
                     missing,
                     unexpected,
+                }
+                | Difference::Shown {
+                    missing,
+                    unexpected,
+                    ..
                 },
             ),
             _,
@@ -196,6 +226,8 @@ fn is_update_of(op: &Op, wanted: u32) -> bool {
         Op::OrAdd { element, .. } | Op::OrRemove { element, .. } | Op::After { element, .. } => {
             *element == wanted
         }
+        Op::List(ListOp::Insert(insertion)) => insertion.element == wanted,
+        Op::List(ListOp::Remove(element)) => *element == wanted,
         _ => false,
     }
 }

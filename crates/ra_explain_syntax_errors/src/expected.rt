@@ -47,7 +47,7 @@ impl Expected {
         match self {
             Expected::FirstWord => "RAH: the first line is RAH 1 or RAH 2, and a kind",
             Expected::FormatNumber => "1 or 2, the version of the format",
-            Expected::KindWord => "a kind: counter, register, lwwset, orset or rga",
+            Expected::KindWord => "a kind: counter, register, lwwset, orset, rga or list",
             Expected::SecondWord =>
                 "replicas: the second line is this word and the replicas' names",
             Expected::NewName => {
@@ -95,5 +95,6 @@ fn operations_of(kind: Kind) -> &'static str {
         Kind::Register => "got, or an operation: write, read",
         Kind::LwwSet | Kind::OrSet => "got, or an operation: add, remove, read",
         Kind::Rga => "got, or an operation: after, remove, read",
+        Kind::List => "got, or an operation: insert, remove, read, part",
     }
 }

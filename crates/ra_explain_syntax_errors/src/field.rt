@@ -162,7 +162,9 @@ fn in_act(kind: Kind, mut cursor: Cursor<'_>) -> Option<Trouble> {
     match cursor.take() {
         Some(b"inc") | Some(b"dec") => cursor.clock(Expected::End),
         Some(b"read") => in_read(kind, cursor),
-        Some(b"after") => in_insertion(cursor),
+        Some(b"after") => in_numbers(cursor, 2, Expected::Clock),
+        Some(b"insert") if kind == Kind::List => in_numbers(cursor, 3, Expected::End),
+        Some(b"part") if kind == Kind::List => in_part(cursor),
         Some(word) if has_number(word) => match cursor.number(meaning_behind(word)) {
             None => behind_number(kind, word, cursor),
             trouble => trouble,
@@ -203,7 +205,7 @@ fn in_read(kind: Kind, mut cursor: Cursor<'_>) -> Option<Trouble> {
             Expected::Signed,
         ),
         Kind::Register if !field.is_some_and(is_value) => cursor.trouble(Expected::Value),
-        Kind::LwwSet | Kind::OrSet | Kind::Rga if !field.is_some_and(is_list) => {
+        Kind::LwwSet | Kind::OrSet | Kind::Rga | Kind::List if !field.is_some_and(is_list) => {
             cursor.trouble(Expected::List)
         }
         _ => cursor.clock(Expected::End),
@@ -213,6 +215,7 @@ fn in_read(kind: Kind, mut cursor: Cursor<'_>) -> Option<Trouble> {
 fn in_addition(kind: Kind, mut cursor: Cursor<'_>) -> Option<Trouble> {
     let expected = match kind {
         Kind::OrSet => Expected::Identifier,
+        Kind::List => Expected::End,
         Kind::Counter | Kind::Register | Kind::LwwSet | Kind::Rga => Expected::Clock,
     };
     match cursor.take_marked() {
@@ -225,7 +228,7 @@ fn in_addition(kind: Kind, mut cursor: Cursor<'_>) -> Option<Trouble> {
 fn in_removal(kind: Kind, mut cursor: Cursor<'_>) -> Option<Trouble> {
     let expected = match kind {
         Kind::OrSet => Expected::Identifiers,
-        Kind::Rga => Expected::End,
+        Kind::Rga | Kind::List => Expected::End,
         Kind::Counter | Kind::Register | Kind::LwwSet => Expected::Clock,
     };
     match cursor.take_marked() {
@@ -235,14 +238,23 @@ fn in_removal(kind: Kind, mut cursor: Cursor<'_>) -> Option<Trouble> {
     }
 }
 
-fn in_insertion(mut cursor: Cursor<'_>) -> Option<Trouble> {
-    for _ in 0..2 {
+// Reads this many numbers of an insertion, and what may follow them.
+fn in_numbers(mut cursor: Cursor<'_>, count: u32, behind: Expected) -> Option<Trouble> {
+    for _ in 0..count {
         let trouble = cursor.number(Expected::Number);
         if trouble.is_some() {
             return trouble;
         }
     }
-    cursor.clock(Expected::Clock)
+    cursor.clock(behind)
+}
+
+// Reads the elements of a read of a part of a list.
+fn in_part(mut cursor: Cursor<'_>) -> Option<Trouble> {
+    match cursor.take() {
+        Some(field) if is_list(field) => cursor.clock(Expected::End),
+        _ => cursor.trouble(Expected::List),
+    }
 }
 
 fn is_value(field: &[u8]) -> bool {

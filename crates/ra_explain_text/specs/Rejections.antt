@@ -61,6 +61,7 @@ operations_of kind.Register = codes "a register's operations are write and read"
 operations_of kind.LwwSet = codes "an LWW set's operations are add, remove and read"
 operations_of kind.OrSet = codes "an OR-Set's operations are add, remove and read"
 operations_of kind.Rga = codes "a list's operations are after, remove and read"
+operations_of kind.List = codes "a list's operations are insert, remove, read and part"
 
 -- why this kind does not have the operation of the command
 abbrev pub wrong_kind : Kind → Command → List ℕ

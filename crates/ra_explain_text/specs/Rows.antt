@@ -33,6 +33,13 @@ head_word head.NotPossible = codes "not possible"
 head_word head.Duplicate = codes "duplicate"
 head_word head.Sees = codes "sees"
 head_word head.NotDelivered = codes "not delivered"
+head_word head.LeftOut = codes "left out"
+head_word head.Shows = codes "shows"
+head_word head.Repeats = codes "repeats"
+head_word head.Names = codes "names"
+head_word head.Cycle = codes "cycle"
+head_word head.So = codes "so"
+head_word head.Holds = codes "one that holds"
 
 -- `true` if the head is a word, and not that of a further line
 abbrev pub has_word : Head → Bool

@@ -4,7 +4,12 @@ use Rattle.std.specs.Prelude.{◌≡◌, ℕ, ◌-◌, ◌==◌, nat_lt, min, Bo
 use Rattle.std.specs.List.{list_any}
 use Rattle.std.specs.Option.{option_map_or}
 use Rattle.ra_labels.specs.declared.command.Command.{Command}
-use Rattle.ra_labels.specs.declared.command.Command.TheVariants.{Deliver}
+use Rattle.ra_labels.specs.declared.command.Command.TheVariants.{Operate, Deliver}
+use Rattle.ra_labels.specs.declared.kind.Kind.{Kind}
+use Rattle.ra_labels.specs.declared.kind.Kind.TheVariants as kinds
+use Rattle.ra_labels.specs.declared.operation.Op.{Op}
+use Rattle.ra_labels.specs.declared.operation.Op.TheVariants as op
+use Rattle.ra_labels.specs.declared.list_operation.ListOp.TheVariants as list
 use Rattle.ra_labels.specs.declared.reply.Cause.{Cause}
 use Rattle.ra_labels.specs.declared.reply.Cause.TheVariants as cause
 use Rattle.ra_history_writer.specs.Spelling.{name_of}
@@ -21,30 +26,48 @@ use Rattle.ra_explain_text.specs.declared.notes.Note.{Note}
 
 -- ---- a violation
 
-abbrev pub reason_words : Cause → List ℕ
-reason_words cause.Query = codes "its result does not follow from the updates that it sees."
-reason_words cause.Order = codes "its clock is not greater than each clock that it sees."
-reason_words cause.Update = codes "it cannot be applied at its position in the order."
+-- what is wrong with the order of such a violation
+abbrev pub order_words : Kind → List ℕ
+order_words kinds.List = codes "no single order explains it with the lines before."
+order_words other = codes "its clock is not greater than each clock that it sees."
+
+abbrev pub reason_words : Kind → Cause → List ℕ
+reason_words kind cause.Query = codes "its result does not follow from the updates that it sees."
+reason_words kind cause.Order = order_words kind
+reason_words kind cause.Update = codes "it cannot be applied at its position in the order."
 
 -- the line, the label, and the reason of the violation
-abbrev pub sentence_line : Violation → List ℕ
-sentence_line v = line_words v.place ++ ((codes " is a violation (label " ++ decimal v.fault.label)
-    ++ (codes "): " ++ reason_words v.fault.cause))
+abbrev pub sentence_line : Kind → Violation → List ℕ
+sentence_line kind v = line_words v.place ++ ((codes " is a violation (label " ++ decimal v.fault.label)
+    ++ (codes "): " ++ reason_words kind v.fault.cause))
 
-abbrev pub sentence : Violation → List ℕ
-sentence v = codes "\n" ++ (cut_line (sentence_line v) ++ codes "\n\n")
+abbrev pub sentence : Kind → Violation → List ℕ
+sentence kind v = codes "\n" ++ (cut_line (sentence_line kind v) ++ codes "\n\n")
 
 abbrev pub reported_row : List (List ℕ) → Violation → List ℕ
 reported_row names v = row (codes "reported") (act_words names v.reported)
 
--- the expected result of a query, or that none is possible
-abbrev pub expected_words : List (List ℕ) → Option Command → List ℕ
-expected_words names (Some command) = act_words names command
-expected_words names None = codes "no result: the updates that it sees cannot be applied by themselves"
+-- what is expected of an operation for which no result is possible
+abbrev pub no_result_of : Op → List ℕ
+no_result_of (op.List (list.Insert insertion)) = codes "neighbours that its replica has received, or 0 for none"
+no_result_of (op.List (list.Remove x)) = codes "an element that its replica has received"
+no_result_of other = codes "no result: the updates that it sees cannot be applied by themselves"
 
-abbrev pub expected_row : List (List ℕ) → Cause → Option Command → List ℕ
-expected_row names cause.Query expected = row (codes "expected") (expected_words names expected)
-expected_row names other expected = []
+abbrev pub no_result : Command → List ℕ
+no_result (Operate by operation clock) = no_result_of operation
+no_result other = codes "no result: the updates that it sees cannot be applied by themselves"
+
+-- the expected result of a query, or what is expected where none is possible
+abbrev pub expected_words : List (List ℕ) → Command → Option Command → List ℕ
+expected_words names reported (Some command) = act_words names command
+expected_words names reported None = no_result reported
+
+abbrev pub expected_for : List (List ℕ) → Cause → Command → Option Command → List ℕ
+expected_for names cause.Query reported expected = row (codes "expected") (expected_words names reported expected)
+expected_for names other reported expected = []
+
+abbrev pub expected_row : List (List ℕ) → Violation → List ℕ
+expected_row names v = expected_for names v.fault.cause v.reported v.expected
 
 -- ---- its remedies
 
@@ -158,8 +181,8 @@ pass_text names e = pass_sentence e.report.labels ++ (undelivered_rows names e +
 
 -- the text of a violation, with these notes before the remedies
 abbrev pub violation_text : List (List ℕ) → Explanation → List Note → Violation → List ℕ
-violation_text names e notes v = sentence v ++ (reported_row names v
-    ++ (expected_row names v.fault.cause v.expected ++ (notes_bytes notes
+violation_text names e notes v = sentence e.setup.kind v ++ (reported_row names v
+    ++ (expected_row names v ++ (notes_bytes notes
     ++ (remedy_rows names e v ++ rejected_rows names e))))
 
 -- the same of a violation or of a pass

@@ -1,7 +1,8 @@
 //! The causes other than a query: a clock below one that is seen, and an update that is not admitted.
 use crate::layout::{put, put_count, small};
+use crate::list_elements::add_obstacle;
 use crate::notes::{Head, Note, add_note};
-use crate::quotes::{put_label, put_label_and, put_line, put_name};
+use crate::quotes::{put_arrival, put_label, put_label_and};
 use crate::view::View;
 use ra_explain::{LabelsWith, Violation, operation_in};
 use ra_history_lines::number::put_numbered;
@@ -40,18 +41,7 @@ fn add_above(
     other: u32,
 ) -> Result<(), NoMemory> {
     let mut words = Vec::new(*notes.allocator());
-    match view.explanation.delivery(replica, other) {
-        Some(place) => {
-            put(&mut words, ", which was delivered to ")?;
-            put_name(&mut words, view.names, replica)?;
-            put(&mut words, " in ")?;
-            put_line(&mut words, place)?;
-        }
-        None if view.explanation.issuer(other) == Some(replica) => {
-            put(&mut words, ", which its own replica issued")?
-        }
-        None => put(&mut words, ", which its replica joined with")?,
-    }
+    put_arrival(&mut words, view, replica, other)?;
     let mut text = Vec::new(*notes.allocator());
     put_label_and(&mut text, view, other, &words)?;
     Ok(notes.push(Note {
@@ -96,6 +86,7 @@ pub fn add_update(
             add_needed(notes, view, label, *anchor)
         }
         Some(Op::RgaRemove(element)) => add_needed(notes, view, label, *element),
+        Some(Op::List(op)) => add_obstacle(notes, view, violation, op),
         _ => Ok(()),
     }
 }

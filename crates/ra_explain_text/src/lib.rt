@@ -8,10 +8,12 @@
 #![tactic(auto)]
 
 mod causes;
+mod conflict;
 mod document;
 mod elements;
 mod json;
 mod layout;
+mod list_elements;
 mod notes;
 mod page;
 mod pass;

@@ -38,6 +38,20 @@ pub enum Head {
     Sees,
     /// An update that its replica lacks.
     NotDelivered,
+    /// An element that a list's read leaves out.
+    LeftOut,
+    /// An element that a list's read shows and must not show.
+    Shows,
+    /// Elements that a list's read shows more than once.
+    Repeats,
+    /// An element that an operation of a list names and its replica has not received.
+    Names,
+    /// The edges of a cycle.
+    Cycle,
+    /// What would follow.
+    So,
+    /// An operation that would hold.
+    Holds,
 }
 
 /// A line of a page: its head, and a text of printable bytes.
@@ -139,7 +153,14 @@ fn has_word(head: Head) -> bool
         | Head::NotPossible
         | Head::Duplicate
         | Head::Sees
-        | Head::NotDelivered => true,
+        | Head::NotDelivered
+        | Head::LeftOut
+        | Head::Shows
+        | Head::Repeats
+        | Head::Names
+        | Head::Cycle
+        | Head::So
+        | Head::Holds => true,
     }
 }
 
@@ -161,5 +182,12 @@ fn word_of(head: Head) -> &'static str
         Head::Duplicate => "duplicate",
         Head::Sees => "sees",
         Head::NotDelivered => "not delivered",
+        Head::LeftOut => "left out",
+        Head::Shows => "shows",
+        Head::Repeats => "repeats",
+        Head::Names => "names",
+        Head::Cycle => "cycle",
+        Head::So => "so",
+        Head::Holds => "one that holds",
     }
 }

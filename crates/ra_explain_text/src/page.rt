@@ -4,6 +4,7 @@ ghost use Rattle.ra_explain_text.specs.Words as words;
 ghost use Rattle.ra_explain_text.specs.Words.{IsText, words_for};
 
 use crate::causes::{add_order, add_update};
+use crate::conflict::add_conflict;
 use crate::layout::{put, put_count, put_cut_line, put_row};
 use crate::notes::{Note, put_notes};
 use crate::pass::put_undelivered;
@@ -16,7 +17,7 @@ use crate::view::View;
 use ra_explain::Violation;
 use ra_history_lines::Names;
 use ra_history_lines::number::put_numbered;
-use ra_labels::{Cause, Command, NoMemory};
+use ra_labels::{Cause, Command, Kind, ListOp, NoMemory, Op};
 
 /// Appends the explanation as text.
 ///
@@ -55,41 +56,52 @@ fn put_violation(
     ensures { OnOk result (out.new.items ≡ out.old.items ++ words.violation_text view.now.names.now
         view.now.explanation.now notes.now violation.now) }
 {
-    put_sentence(out, violation)?;
+    put_sentence(out, view.explanation.setup.kind, violation)?;
     put_reported(out, view.names, violation)?;
-    put_expected(out, view.names, violation.fault.cause, &violation.expected)?;
+    put_expected(out, view.names, violation)?;
     put_notes(out, notes)?;
     put_remedies(out, view, violation)?;
     put_rejections(out, view)
 }
 
 // Appends the line, the label, and the reason of the violation.
-fn put_sentence(out: &mut Vec<u8>, violation: &Violation) -> Result<(), NoMemory>
-    ensures { OnOk result (out.new.items ≡ out.old.items ++ words.sentence violation.now) }
+fn put_sentence(out: &mut Vec<u8>, kind: Kind, violation: &Violation) -> Result<(), NoMemory>
+    ensures { OnOk result (out.new.items ≡ out.old.items ++ words.sentence kind violation.now) }
 {
     let mut line = Vec::new(*out.allocator());
-    put_sentence_line(&mut line, violation)?;
+    put_sentence_line(&mut line, kind, violation)?;
     put(out, "\n")?;
     put_cut_line(out, &line)?;
     put(out, "\n\n")
 }
 
-fn put_sentence_line(line: &mut Vec<u8>, violation: &Violation) -> Result<(), NoMemory>
-    ensures { OnOk result (line.new.items ≡ line.old.items ++ words.sentence_line violation.now) }
+fn put_sentence_line(line: &mut Vec<u8>, kind: Kind, violation: &Violation) -> Result<(), NoMemory>
+    ensures { OnOk result (line.new.items ≡ line.old.items ++ words.sentence_line kind violation.now) }
 {
     put_line(line, violation.place)?;
     put_numbered(line, b" is a violation (label ", violation.fault.label)?;
     put(line, "): ")?;
-    put(line, reason(violation.fault.cause))
+    put(line, reason(kind, violation.fault.cause))
 }
 
-fn reason(cause: Cause) -> &'static str
-    ensures { result.now ≡ words.reason_words cause }
+fn reason(kind: Kind, cause: Cause) -> &'static str
+    ensures { result.now ≡ words.reason_words kind cause }
 {
     match cause {
         Cause::Query => "its result does not follow from the updates that it sees.",
-        Cause::Order => "its clock is not greater than each clock that it sees.",
+        Cause::Order => broken_order(kind),
         Cause::Update => "it cannot be applied at its position in the order.",
+    }
+}
+
+// Returns what is wrong with the order of a violation with this cause.
+fn broken_order(kind: Kind) -> &'static str
+    ensures { result.now ≡ words.order_words kind }
+{
+    match kind {
+        Kind::List => "no single order explains it with the lines before.",
+        Kind::Counter | Kind::Register | Kind::LwwSet | Kind::OrSet | Kind::Rga =>
+            "its clock is not greater than each clock that it sees.",
     }
 }
 
@@ -102,35 +114,50 @@ fn put_reported(out: &mut Vec<u8>, names: &Names, violation: &Violation) -> Resu
 }
 
 // Appends the expected result of a query, or that none is possible.
-fn put_expected(
-    out: &mut Vec<u8>,
-    names: &Names,
-    cause: Cause,
-    expected: &Option<Command>,
-) -> Result<(), NoMemory>
-    ensures { OnOk result (out.new.items ≡ out.old.items ++ words.expected_row names.now cause expected.now) }
+fn put_expected(out: &mut Vec<u8>, names: &Names, violation: &Violation) -> Result<(), NoMemory>
+    ensures { OnOk result (out.new.items ≡ out.old.items ++ words.expected_row names.now violation.now) }
 {
-    if cause != Cause::Query {
+    if violation.fault.cause != Cause::Query {
         return Ok(());
     }
     let mut text = Vec::new(*out.allocator());
-    put_expected_words(&mut text, names, expected)?;
+    put_expected_words(&mut text, names, &violation.reported, &violation.expected)?;
     put_row(out, "expected", &text)
 }
 
 fn put_expected_words(
     text: &mut Vec<u8>,
     names: &Names,
+    reported: &Command,
     expected: &Option<Command>,
 ) -> Result<(), NoMemory>
-    ensures { OnOk result (text.new.items ≡ text.old.items ++ words.expected_words names.now expected.now) }
+    ensures { OnOk result (text.new.items
+        ≡ text.old.items ++ words.expected_words names.now reported.now expected.now) }
 {
     match expected {
         Some(command) => put_act(text, names, command),
-        None => put(
-            text,
+        None => put(text, no_result(reported)),
+    }
+}
+
+// Returns what is expected of a command for which no result is possible.
+fn no_result(reported: &Command) -> &'static str
+    ensures { result.now ≡ words.no_result reported.now }
+{
+    match reported {
+        Command::Operate { op, .. } => no_result_of(op),
+        Command::Deliver { .. } | Command::Join { .. } | Command::Verdict =>
             "no result: the updates that it sees cannot be applied by themselves",
-        ),
+    }
+}
+
+fn no_result_of(op: &Op) -> &'static str
+    ensures { result.now ≡ words.no_result_of op.now }
+{
+    match op {
+        Op::List(ListOp::Insert(_)) => "neighbours that its replica has received, or 0 for none",
+        Op::List(ListOp::Remove(_)) => "an element that its replica has received",
+        _ => "no result: the updates that it sees cannot be applied by themselves",
     }
 }
 
@@ -176,7 +203,10 @@ fn add_reasons(notes: &mut Vec<Note>, view: &View<'_>) -> Result<(), NoMemory> {
     };
     match violation.fault.cause {
         Cause::Query => add_query(notes, view, violation)?,
-        Cause::Order => add_order(notes, view, violation)?,
+        Cause::Order => match &view.explanation.conflict {
+            Some(conflict) => add_conflict(notes, view, conflict)?,
+            None => add_order(notes, view, violation)?,
+        },
         Cause::Update => add_update(notes, view, violation)?,
     }
     add_shares(notes, view, violation)

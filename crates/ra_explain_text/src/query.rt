@@ -1,10 +1,11 @@
 //! The difference of the reported result from the expected one.
 use crate::elements::put_elements;
 use crate::layout::{put, put_size};
+use crate::list_elements::{add_left_out, add_not_received, add_repeated, add_shown};
 use crate::notes::{Head, Note};
 use crate::unmet::add_unmet;
 use crate::view::View;
-use ra_explain::{Difference, Violation};
+use ra_explain::{Difference, Violation, operation_in};
 use ra_history_lines::number::put_number;
 use ra_labels::{Command, NoMemory, Op};
 
@@ -20,13 +21,34 @@ pub fn add_query(
     violation: &Violation,
 ) -> Result<(), NoMemory> {
     match &violation.expected {
-        Some(_) => add_difference(notes, violation),
-        None => add_unmet(notes, view, violation),
+        Some(_) => add_difference(notes, view, violation),
+        None => add_impossible(notes, view, violation),
     }
 }
 
+// Adds the elements that an operation of a list names and its replica has not received, or, of another kind, what
+// makes each answer impossible.
+fn add_impossible(
+    notes: &mut Vec<Note>,
+    view: &View<'_>,
+    violation: &Violation,
+) -> Result<(), NoMemory> {
+    match operation_in(&violation.reported) {
+        Some(op) if is_of_list(op) => add_not_received(notes, view, violation, op),
+        _ => add_unmet(notes, view, violation),
+    }
+}
+
+fn is_of_list(op: &Op) -> bool {
+    matches!(op, Op::List(_))
+}
+
 // Two list reads are compared by their first difference, and two sets by the missing and the unexpected elements.
-fn add_difference(notes: &mut Vec<Note>, violation: &Violation) -> Result<(), NoMemory> {
+fn add_difference(
+    notes: &mut Vec<Note>,
+    view: &View<'_>,
+    violation: &Violation,
+) -> Result<(), NoMemory> {
     match &violation.difference {
         Some(Difference::At(place)) => add_first(
             notes,
@@ -42,6 +64,17 @@ fn add_difference(notes: &mut Vec<Note>, violation: &Violation) -> Result<(), No
         ) => {
             add_list(notes, Head::Missing, missing)?;
             add_list(notes, Head::Unexpected, unexpected)
+        }
+        Some(
+            Difference::Shown {
+                missing,
+                unexpected,
+                repeated,
+            },
+        ) => {
+            add_left_out(notes, view, violation, missing)?;
+            add_shown(notes, view, violation, unexpected)?;
+            add_repeated(notes, repeated)
         }
         None => Ok(()),
     }

@@ -128,6 +128,31 @@ pub fn put_label_and(
     Ok(text.extend_from_slice(words)?)
 }
 
+/// Appends how the replica came to see the label of another operation.
+///
+/// # Errors
+///
+/// `NoMemory` if an allocation fails.
+pub fn put_arrival(
+    words: &mut Vec<u8>,
+    view: &View<'_>,
+    replica: u8,
+    label: u32,
+) -> Result<(), NoMemory> {
+    match view.explanation.delivery(replica, label) {
+        Some(place) => {
+            put(words, ", which was delivered to ")?;
+            put_name(words, view.names, replica)?;
+            put(words, " in ")?;
+            put_line(words, place)
+        }
+        None if view.explanation.issuer(label) == Some(replica) => {
+            put(words, ", which its own replica issued")
+        }
+        None => put(words, ", which its replica joined with"),
+    }
+}
+
 // Appends the line of the entry at this index and what it says, in parentheses, with room for the further bytes.
 fn put_place(
     text: &mut Vec<u8>,

@@ -7,6 +7,7 @@ use Rattle.std.proofs.lemmas.Bool.{cases_Bool, and_parts, and_from, ltb-true, lt
 use Rattle.std.proofs.lemmas.Map.Keys.{IsDistinct-head, IsDistinct-tail, IsDistinct-cons}
 use Rattle.ra_labels.specs.declared.kind.Kind.{Kind}
 use Rattle.ra_labels.specs.declared.kind.Kind.TheVariants.{Counter, Register, LwwSet, OrSet, Rga}
+use Rattle.ra_labels.specs.declared.kind.Kind.TheVariants as kinds
 use Rattle.ra_history_lines.specs.declared.format.Format.{Format}
 use Rattle.ra_history_lines.specs.declared.format.Format.TheVariants.{Rah1, Rah2}
 use Rattle.ra_history_lines.specs.Grammar.{is_name, fields_of, kind_word, first_line, most_names, AreNames, ListsNames}
@@ -45,7 +46,10 @@ spelled_found spelling line kind e =
             | inl is ↦ kind_is spelling line OrSet kind is.0 is.1
             | inr not_or_set ↦ elim (chosen (bytes_eq line (spelling Rga)) _ _ _ not_or_set.1) [
               | inl is ↦ kind_is spelling line Rga kind is.0 is.1
-              | inr none ↦ absurd (let never = none.1 in cc)
+              | inr not_rga ↦ elim (chosen (bytes_eq line (spelling kinds.List)) _ _ _ not_rga.1) [
+                | inl is ↦ kind_is spelling line kinds.List kind is.0 is.1
+                | inr none ↦ absurd (let never = none.1 in cc)
+              ]
             ]
           ]
         ]

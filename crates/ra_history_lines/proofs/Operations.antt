@@ -1,19 +1,23 @@
 -- Lemmas on reading fields as an operation, which succeeds exactly if they are that operation's fields.
 use Rattle.std.proofs.Common.{◌≡◌, ℕ, ◌⊎◌, inl, inr, Bool, true, false, not, cond, eqb, List, [], ◌∷◌, ◌++◌, Option, Some, None, refl, sym, ap, subst, ◌∙◌}
-use Rattle.std.specs.Prelude.{bytes_eq, codes, decimal, IfSome, option_map}
+use Rattle.std.specs.Prelude.{bytes_eq, codes, decimal, IfSome, option_map, option_and_then, ◌||◌}
 use Rattle.std.specs.Fmt.{signed_decimal}
 use Rattle.std.proofs.lemmas.Bool.{eqb-true, cases_Bool}
 use Rattle.std.proofs.lemmas.Option.{option_and_then_some}
 use Rattle.std.proofs.lemmas.Slice.Eq.{bytes_eq-Decides}
 use Rattle.ra_labels.specs.declared.kind.Kind.{Kind}
 use Rattle.ra_labels.specs.declared.kind.Kind.TheVariants.{Counter, Register, LwwSet, OrSet, Rga}
+use Rattle.ra_labels.specs.declared.kind.Kind.TheVariants as kinds
 use Rattle.ra_labels.specs.declared.operation.Op.{Op}
 use Rattle.ra_labels.specs.declared.operation.Op.TheVariants.{Inc, Dec, Count, Write, Last, LwwAdd, LwwRemove, LwwRead}
 use Rattle.ra_labels.specs.declared.operation.Op.TheVariants.{OrAdd, OrRemove, OrRead, After, RgaRemove, RgaRead}
-use Rattle.ra_history_lines.specs.Grammar.{IsSmall, list_word, value_word, marked, has_words, operation_fields, HasSmallNumbers}
+use Rattle.ra_labels.specs.declared.operation.Op.TheVariants as op
+use Rattle.ra_labels.specs.declared.list_operation.ListOp.{ListOp}
+use Rattle.ra_labels.specs.declared.list_operation.ListOp.TheVariants as list_op
+use Rattle.ra_history_lines.specs.Grammar.{IsSmall, list_word, value_word, marked, has_words, operation_fields, HasSmallNumbers, HasSmallElements}
 use Rattle.ra_history_lines.specs.Reading.{number_read, signed_read, list_read, value_read, number_first, mark_first}
 use Rattle.ra_history_lines.specs.Reading.{behind_first, query_read, read_first, write_first, addition_read, add_first}
-use Rattle.ra_history_lines.specs.Reading.{plain_removal, removal_read, remove_first, after_first, word_first}
+use Rattle.ra_history_lines.specs.Reading.{plain_removal, removal_read, remove_first, after_first, insertion_of, insert_first, part_first, own_word_first, word_first}
 use Rattle.ra_labels.specs.Answer.{is_kind}
 use Rattle.ra_labels.proofs.SameKind.{same_kind}
 use Rattle.ra_history_lines.proofs.Numbers.{not_number, number_read-Some, number_read-decimal, signed_read-Some, signed_read-decimal}
@@ -96,6 +100,10 @@ query_found Rga field op e =
     let m = mapped (λ list. RgaRead list) (list_read field) op e in
     let says = list_read-Some field m.0 m.1 in
     subst (IsReadOf Rga field) m.2 (refl, says.1, ap (λ (f : List ℕ). codes "read" ∷ f ∷ []) (sym says.0))
+query_found kinds.List field found e =
+    let m = mapped (λ list. op.List (list_op.Read list)) (list_read field) found e in
+    let says = list_read-Some field m.0 m.1 in
+    subst (IsReadOf kinds.List field) m.2 (refl, says.1, ap (λ (f : List ℕ). codes "read" ∷ f ∷ []) (sym says.0))
 
 read_found : (kind : Kind) (fields : List (List ℕ)) (r : Op × List (List ℕ)) → read_first kind fields ≡ Some r
     → AreOf kind (codes "read" ∷ fields) r
@@ -185,6 +193,38 @@ after_found kind fields r e =
     subst (AreOf kind (codes "after" ∷ fields)) m.2
     (record { own = refl; small = (first.1, second.1); words = ap (λ (fs : List (List ℕ)). codes "after" ∷ fs) parts }))
 
+insert_found : (fields : List (List ℕ)) (r : Op × List (List ℕ)) → insert_first fields ≡ Some r
+    → AreOf kinds.List (codes "insert" ∷ fields) r
+insert_found fields r e =
+    option_and_then_some (λ l. option_and_then (λ x. option_map (λ p. (insertion_of l.0 x.0 p.0, p.1))
+    (number_first x.1)) (number_first l.1)) (number_first fields) r e
+    (λ l read_left next.
+    let left = number_first-Some fields l read_left in
+    option_and_then_some (λ x. option_map (λ p. (insertion_of l.0 x.0 p.0, p.1)) (number_first x.1)) (number_first l.1)
+    r next
+    (λ x read_element last.
+    let element = number_first-Some l.1 x read_element in
+    let m = mapped (λ p. (insertion_of l.0 x.0 p.0, p.1)) (number_first x.1) r last in
+    let right = number_first-Some x.1 m.0 m.1 in
+    let parts = left.0 ∙ ap (λ (fs : List (List ℕ)). decimal l.0 ∷ fs) element.0
+    ∙ ap (λ (fs : List (List ℕ)). decimal l.0 ∷ decimal x.0 ∷ fs) right.0 in
+    subst (AreOf kinds.List (codes "insert" ∷ fields)) m.2
+    (record {
+      own = refl;
+      small = (left.1, element.1, right.1);
+      words =
+          ap (λ (fs : List (List ℕ)). codes "insert" ∷ fs) parts;
+    })))
+
+part_found : (fields : List (List ℕ)) (r : Op × List (List ℕ)) → part_first fields ≡ Some r
+    → AreOf kinds.List (codes "part" ∷ fields) r
+part_found [] r e = absurd cc
+part_found (field ∷ fields) r e =
+    let m = mapped (λ list. (op.List (list_op.Part list), fields)) (list_read field) r e in
+    let says = list_read-Some field m.0 m.1 in
+    subst (AreOf kinds.List (codes "part" ∷ field ∷ fields)) m.2
+    (record { own = refl; small = says.1; words = ap (λ (f : List ℕ). codes "part" ∷ f ∷ fields) says.0 })
+
 -- a word that is equal to another is read as it
 at_word : (kind : Kind) (word text : List ℕ) (fields : List (List ℕ)) (r : Op × List (List ℕ))
     → bytes_eq word text ≡ true → AreOf kind (text ∷ fields) r → AreOf kind (word ∷ fields) r
@@ -198,6 +238,24 @@ bare_found kind text fields op r own small words e =
     let is : (op, fields) ≡ r = cc in
     subst (AreOf kind (text ∷ fields)) is
     (record { own = own; small = small; words = ap (λ (fs : List (List ℕ)). fs ++ fields) (sym words) })
+
+own_word_found : (word : List ℕ) (fields : List (List ℕ)) (r : Op × List (List ℕ))
+    → own_word_first word fields ≡ Some r → AreOf kinds.List (word ∷ fields) r
+own_word_found word fields r e =
+    let at = at_word kinds.List word in
+    elim (chosen (bytes_eq word (codes "insert")) _ _ _ e) [
+      | inl here ↦ at (codes "insert") fields r here.0 (insert_found fields r here.1)
+      | inr e2 ↦ elim (chosen (bytes_eq word (codes "part")) _ _ _ e2.1) [
+        | inl here ↦ at (codes "part") fields r here.0 (part_found fields r here.1)
+        | inr none ↦ absurd (let never = none.1 in cc)
+      ]
+    ]
+
+-- a word that only a list has
+listed_found : (kind : Kind) (word : List ℕ) (fields : List (List ℕ)) (r : Op × List (List ℕ))
+    → is_kind kind kinds.List ≡ true → own_word_first word fields ≡ Some r → AreOf kind (word ∷ fields) r
+listed_found kind word fields r is e =
+    subst (λ (k : Kind). AreOf k (word ∷ fields) r) (same_kind kind kinds.List is) (own_word_found word fields r e)
 
 pub word_found : (kind : Kind) (word : List ℕ) (fields : List (List ℕ)) (r : Op × List (List ℕ))
     → word_first kind word fields ≡ Some r → AreOf kind (word ∷ fields) r
@@ -218,7 +276,10 @@ word_found kind word fields r e =
                 | inl here ↦ at (codes "remove") here.0 (remove_found kind fields r here.1)
                 | inr e7 ↦ elim (chosen (bytes_eq word (codes "after")) _ _ _ e7.1) [
                   | inl here ↦ at (codes "after") here.0 (after_found kind fields r here.1)
-                  | inr none ↦ absurd (let never = none.1 in cc)
+                  | inr e8 ↦ elim (chosen (is_kind kind kinds.List) _ _ _ e8.1) [
+                    | inl here ↦ listed_found kind word fields r here.0 here.1
+                    | inr none ↦ absurd (let never = none.1 in cc)
+                  ]
                 ]
               ]
             ]
@@ -244,6 +305,8 @@ behind_word op = behind_first (operation_fields op)
 pub word_is : (op : Op) → (operation_fields op ≡ word_of op ∷ behind_word op)
     × (bytes_eq (word_of op) (codes "got") ≡ false)
 word_is Inc = (refl, refl)
+word_is (op.List (list_op.Insert insertion)) = (refl, refl)
+word_is (op.List _) = (refl, refl)
 word_is _ = (refl, refl)
 
 value_only : (value : Option ℕ) → IfSome value IsSmall → value_read (value_word value) ≡ Some value
@@ -263,9 +326,22 @@ abbrev pub ReadsAs : Kind → Op → Type 0
 ReadsAs kind op = (rest : List (List ℕ)) → mark_first rest ≡ None
     → word_first kind (word_of op) (behind_word op ++ rest) ≡ Some (op, rest)
 
-plain_only : (kind : Kind) (x : ℕ) → not (is_kind kind Rga) ≡ true → plain_removal kind x ≡ LwwRemove x
+plain_only : (kind : Kind) (x : ℕ) → not (is_kind kind Rga || is_kind kind kinds.List) ≡ true
+    → plain_removal kind x ≡ LwwRemove x
 plain_only Rga x own = absurd cc
+plain_only kinds.List x own = absurd cc
 plain_only _ x own = refl
+
+own_word_only : (operation : ListOp) → HasSmallElements operation → ReadsAs kinds.List (op.List operation)
+own_word_only (list_op.Insert insertion) small rest unmarked =
+    rw (
+      number_read-decimal insertion.left small.0,
+      number_read-decimal insertion.element small.1,
+      number_read-decimal insertion.right small.2,
+    ) refl
+own_word_only (list_op.Remove x) small rest unmarked = rw (number_read-decimal x small, unmarked) refl
+own_word_only (list_op.Read list) small rest unmarked = rw (list_read-word list small) refl
+own_word_only (list_op.Part list) small rest unmarked = rw (list_read-word list small) refl
 
 pub word_only : (kind : Kind) (op : Op) → has_words op kind ≡ true → HasSmallNumbers op → ReadsAs kind op
 word_only kind Inc own small rest unmarked = refl
@@ -304,3 +380,6 @@ word_only kind (RgaRead list) own small rest unmarked =
     subst (λ (k : Kind). word_first k (codes "read") (list_word list ∷ rest) ≡ Some (RgaRead list, rest))
     (same_kind kind Rga own)
     (rw (list_read-word list small) refl)
+word_only kind (op.List operation) own small rest unmarked =
+    subst (λ (k : Kind). word_first k (word_of (op.List operation)) (behind_word (op.List operation) ++ rest)
+    ≡ Some (op.List operation, rest)) (same_kind kind kinds.List own) (own_word_only operation small rest unmarked)

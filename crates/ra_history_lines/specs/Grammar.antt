@@ -9,8 +9,12 @@ use Rattle.ra_history_lines.specs.declared.format.Format.{Format}
 use Rattle.ra_history_lines.specs.declared.format.Format.TheVariants.{Rah1, Rah2}
 use Rattle.ra_labels.specs.declared.kind.Kind.{Kind}
 use Rattle.ra_labels.specs.declared.kind.Kind.TheVariants.{Counter, Register, LwwSet, OrSet, Rga}
+use Rattle.ra_labels.specs.declared.kind.Kind.TheVariants as kinds
 use Rattle.ra_labels.specs.declared.operation.Op.{Op}
 use Rattle.ra_labels.specs.declared.operation.Op.TheVariants.{Inc, Dec, Count, Write, Last, LwwAdd, LwwRemove, LwwRead, OrAdd, OrRemove, OrRead, After, RgaRemove, RgaRead}
+use Rattle.ra_labels.specs.declared.operation.Op.TheVariants as op
+use Rattle.ra_labels.specs.declared.list_operation.ListOp.{ListOp}
+use Rattle.ra_labels.specs.declared.list_operation.ListOp.TheVariants as list_op
 use Rattle.ra_labels.specs.declared.command.Command.{Command}
 use Rattle.ra_labels.specs.declared.command.Command.TheVariants.{Operate, Deliver, Join, Verdict}
 use Rattle.ra_labels.specs.declared.reply.Reply.{Reply}
@@ -77,6 +81,7 @@ kind_word Register = codes "register"
 kind_word LwwSet = codes "lwwset"
 kind_word OrSet = codes "orset"
 kind_word Rga = codes "rga"
+kind_word kinds.List = codes "list"
 
 -- the beginning of a first line
 abbrev pub format_word : Format → List ℕ
@@ -113,7 +118,8 @@ marked word = 35 ∷ word
 -- ---- commands
 
 -- `true` if lines of this kind of history can spell the operation. A `read` is always the kind's own. A removal without
--- identifiers is an RGA's in an RGA, and an LWW set's in each other kind. All else can be spelled in every kind.
+-- identifiers is an RGA's in an RGA, a list's in a list, and an LWW set's in each other kind. Only a list has
+-- `insert` and `part`. All else can be spelled in every kind.
 abbrev pub has_words : Op → Kind → Bool
 has_words Inc kind = true
 has_words Dec kind = true
@@ -121,7 +127,7 @@ has_words (Count value) kind = is_kind kind Counter
 has_words (Write value) kind = true
 has_words (Last value) kind = is_kind kind Register
 has_words (LwwAdd x) kind = true
-has_words (LwwRemove x) kind = not (is_kind kind Rga)
+has_words (LwwRemove x) kind = not (is_kind kind Rga || is_kind kind kinds.List)
 has_words (LwwRead list) kind = is_kind kind LwwSet
 has_words (OrAdd x id) kind = true
 has_words (OrRemove x ids) kind = true
@@ -129,6 +135,15 @@ has_words (OrRead list) kind = is_kind kind OrSet
 has_words (After anchor x) kind = true
 has_words (RgaRemove x) kind = is_kind kind Rga
 has_words (RgaRead list) kind = is_kind kind Rga
+has_words (op.List operation) kind = is_kind kind kinds.List
+
+-- the fields of a list's operation, with its return value
+abbrev pub list_operation_fields : ListOp → List (List ℕ)
+list_operation_fields (list_op.Insert insertion) =
+    codes "insert" ∷ decimal insertion.left ∷ decimal insertion.element ∷ decimal insertion.right ∷ []
+list_operation_fields (list_op.Remove x) = codes "remove" ∷ decimal x ∷ []
+list_operation_fields (list_op.Read list) = codes "read" ∷ list_word list ∷ []
+list_operation_fields (list_op.Part list) = codes "part" ∷ list_word list ∷ []
 
 -- the fields of an operation, with its return value
 abbrev pub operation_fields : Op → List (List ℕ)
@@ -146,11 +161,20 @@ operation_fields (OrRead list) = codes "read" ∷ list_word list ∷ []
 operation_fields (After anchor x) = codes "after" ∷ decimal anchor ∷ decimal x ∷ []
 operation_fields (RgaRemove x) = codes "remove" ∷ decimal x ∷ []
 operation_fields (RgaRead list) = codes "read" ∷ list_word list ∷ []
+operation_fields (op.List operation) = list_operation_fields operation
 
 -- the field of a clock: a commercial at (byte 64) and the number; none without a clock
 abbrev pub clock_fields : Option ℕ → List (List ℕ)
 clock_fields None = []
 clock_fields (Some clock) = (64 ∷ decimal clock) ∷ []
+
+-- holds if the numbers of the list's operation fit in 32 bits
+abbrev pub HasSmallElements : ListOp → Type 0
+HasSmallElements (list_op.Insert insertion) =
+    IsSmall insertion.left × IsSmall insertion.element × IsSmall insertion.right
+HasSmallElements (list_op.Remove x) = IsSmall x
+HasSmallElements (list_op.Read list) = AllByRecursion IsSmall list
+HasSmallElements (list_op.Part list) = AllByRecursion IsSmall list
 
 -- holds if the numbers of the operation fit in 32 bits
 abbrev pub HasSmallNumbers : Op → Type 0
@@ -168,6 +192,7 @@ HasSmallNumbers (OrRead list) = AllByRecursion IsSmall list
 HasSmallNumbers (After anchor x) = IsSmall anchor × IsSmall x
 HasSmallNumbers (RgaRemove x) = IsSmall x
 HasSmallNumbers (RgaRead list) = AllByRecursion IsSmall list
+HasSmallNumbers (op.List operation) = HasSmallElements operation
 
 -- holds if the name is valid and represents the replica
 pub record NamesReplica (names : List (List ℕ)) (name : List ℕ) (replica : ℕ) : Type 0 where

@@ -4,8 +4,12 @@ use Rattle.std.specs.Prelude.{◌≡◌, ℕ, ◌+◌, ◌-◌, ◌*◌, ◌^◌
 use Rattle.std.specs.Char.{is_ascii_digit}
 use Rattle.ra_labels.specs.declared.kind.Kind.{Kind}
 use Rattle.ra_labels.specs.declared.kind.Kind.TheVariants.{Counter, Register, LwwSet, OrSet, Rga}
+use Rattle.ra_labels.specs.declared.kind.Kind.TheVariants as kinds
 use Rattle.ra_labels.specs.declared.operation.Op.{Op}
 use Rattle.ra_labels.specs.declared.operation.Op.TheVariants.{Inc, Dec, Count, Write, Last, LwwAdd, LwwRemove, LwwRead, OrAdd, OrRemove, OrRead, After, RgaRemove, RgaRead}
+use Rattle.ra_labels.specs.declared.operation.Op.TheVariants as op
+use Rattle.ra_labels.specs.declared.list_operation.ListOp.TheVariants as list_op
+use Rattle.ra_labels.specs.Answer.{is_kind}
 use Rattle.ra_labels.specs.declared.command.Command.{Command}
 use Rattle.ra_labels.specs.declared.command.Command.TheVariants.{Operate, Deliver, Join, Verdict}
 use Rattle.std.specs.List.{list_all, list_any}
@@ -25,6 +29,7 @@ kind_spelled spelling bytes =
     else if bytes_eq bytes (spelling LwwSet) then Some LwwSet
     else if bytes_eq bytes (spelling OrSet) then Some OrSet
     else if bytes_eq bytes (spelling Rga) then Some Rga
+    else if bytes_eq bytes (spelling kinds.List) then Some kinds.List
     else None
 
 -- the kind that a first line of this format names, if any
@@ -145,6 +150,7 @@ query_read Register field = option_map (λ value. Last value) (value_read field)
 query_read LwwSet field = option_map (λ list. LwwRead list) (list_read field)
 query_read OrSet field = option_map (λ list. OrRead list) (list_read field)
 query_read Rga field = option_map (λ list. RgaRead list) (list_read field)
+query_read kinds.List field = option_map (λ list. op.List (list_op.Read list)) (list_read field)
 
 abbrev pub read_first : Kind → List (List ℕ) → Option (Rest Op)
 read_first kind [] = None
@@ -168,6 +174,7 @@ plain_removal Counter x = LwwRemove x
 plain_removal Register x = LwwRemove x
 plain_removal LwwSet x = LwwRemove x
 plain_removal OrSet x = LwwRemove x
+plain_removal kinds.List x = op.List (list_op.Remove x)
 
 -- a removal of x, with identifiers if there are any
 abbrev pub removal_read : Kind → ℕ → List (List ℕ) → Option (List ℕ) → Option (Rest Op)
@@ -181,6 +188,28 @@ abbrev pub after_first : List (List ℕ) → Option (Rest Op)
 after_first fields =
     option_and_then (λ n. option_map (λ m. (After n.0 m.0, m.1)) (number_first n.1)) (number_first fields)
 
+-- the insertion of x between these neighbours
+abbrev pub insertion_of : ℕ → ℕ → ℕ → Op
+insertion_of left x right = op.List (list_op.Insert (record { left = left; element = x; right = right }))
+
+-- an insertion: its left neighbour, its element and its right neighbour
+abbrev pub insert_first : List (List ℕ) → Option (Rest Op)
+insert_first fields =
+    option_and_then (λ l. option_and_then (λ x. option_map (λ r. (insertion_of l.0 x.0 r.0, r.1)) (number_first x.1))
+    (number_first l.1)) (number_first fields)
+
+-- a read of a part of a list
+abbrev pub part_first : List (List ℕ) → Option (Rest Op)
+part_first [] = None
+part_first (field ∷ fields) = option_map (λ list. (op.List (list_op.Part list), fields)) (list_read field)
+
+-- an operation whose word only a list has
+abbrev pub own_word_first : List ℕ → List (List ℕ) → Option (Rest Op)
+own_word_first word fields =
+    if bytes_eq word (codes "insert") then insert_first fields
+    else if bytes_eq word (codes "part") then part_first fields
+    else None
+
 -- an operation, from its first word
 abbrev pub word_first : Kind → List ℕ → List (List ℕ) → Option (Rest Op)
 word_first kind word fields =
@@ -191,6 +220,7 @@ word_first kind word fields =
     else if bytes_eq word (codes "add") then add_first fields
     else if bytes_eq word (codes "remove") then remove_first kind fields
     else if bytes_eq word (codes "after") then after_first fields
+    else if is_kind kind kinds.List then own_word_first word fields
     else None
 
 -- ---- commands
@@ -262,10 +292,14 @@ reads_list Register = false
 reads_list LwwSet = true
 reads_list OrSet = true
 reads_list Rga = true
+reads_list kinds.List = true
 
 -- `true` if this is the first word of an operation that may have a list, for which a reader allocates
 abbrev pub asks_for_list : Kind → List ℕ → Bool
-asks_for_list kind word = if bytes_eq word (codes "read") then reads_list kind else bytes_eq word (codes "remove")
+asks_for_list kind word =
+    if bytes_eq word (codes "read") then reads_list kind
+    else if bytes_eq word (codes "part") then is_kind kind kinds.List
+    else bytes_eq word (codes "remove")
 
 -- `true` if such a word is at its position among the fields of a line
 abbrev pub may_have_list : Kind → List (List ℕ) → Bool

@@ -54,6 +54,8 @@ pub fn kind_of_word(word: &[u8]) -> Option<Kind>
         Some(Kind::OrSet)
     } else if is_word(word, "rga") {
         Some(Kind::Rga)
+    } else if is_word(word, "list") {
+        Some(Kind::List)
     } else {
         None
     }
@@ -70,5 +72,6 @@ pub fn kind_word(kind: Kind) -> &'static str
         Kind::LwwSet => "lwwset",
         Kind::OrSet => "orset",
         Kind::Rga => "rga",
+        Kind::List => "list",
     }
 }

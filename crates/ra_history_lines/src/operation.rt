@@ -1,13 +1,15 @@
 //! The parser of operations with their return values.
-ghost use Rattle.std.specs.Prelude.{◌≡◌, true, ℕ, List, Some, IfOk, OnErr};
+ghost use Rattle.std.specs.Prelude.{◌≡◌, true, ℕ, List, Some, IfOk, OnErr, bytes_eq, codes};
 ghost use Rattle.ra_labels.specs.declared.kind.Kind.TheVariants.{Counter, Register};
-ghost use Rattle.ra_history_lines.specs.Reading.{Reads, number_first, query_read, value_read, list_read, read_first, write_first, add_first, remove_first, plain_removal, after_first, word_first, reads_list, asks_for_list};
+ghost use Rattle.ra_labels.specs.declared.kind.Kind.TheVariants as kinds;
+ghost use Rattle.ra_labels.specs.Answer.{is_kind};
+ghost use Rattle.ra_history_lines.specs.Reading.{Reads, number_first, query_read, value_read, list_read, read_first, write_first, add_first, remove_first, plain_removal, after_first, insert_first, part_first, own_word_first, word_first, reads_list, asks_for_list};
 
 use crate::fields::Fields;
 use crate::list::list;
 use crate::number::{number, signed_number};
 use crate::word::is_word;
-use ra_labels::{Elements, Kind, NoMemory, Op};
+use ra_labels::{Elements, Insertion, Kind, ListOp, NoMemory, Op};
 use std::alloc::Global;
 
 /// Returns the operation that the word and the following fields encode in a history of this kind, or `None` if they
@@ -43,6 +45,26 @@ pub fn operation(
         remove(alloc, kind, fields)
     } else if is_word(word, "after") {
         Ok(after(fields))
+    } else if kind == Kind::List {
+        list_operation(alloc, word, fields)
+    } else {
+        Ok(None)
+    }
+}
+
+// Reads an operation whose word only a list has.
+fn list_operation(
+    alloc: Global,
+    word: &[u8],
+    fields: &mut Fields<'_>,
+) -> Result<Option<Op>, NoMemory>
+    ensures read { IfOk result (λ op. Reads (own_word_first word.now fields.old) op fields.new) }
+    ensures memory { OnErr result (bytes_eq word.now (codes "part") ≡ true) }
+{
+    if is_word(word, "insert") {
+        Ok(insert(fields))
+    } else if is_word(word, "part") {
+        part(alloc, fields)
     } else {
         Ok(None)
     }
@@ -66,7 +88,7 @@ fn query(alloc: Global, kind: Kind, field: &[u8]) -> Result<Option<Op>, NoMemory
     match kind {
         Kind::Counter => Ok(count(field)),
         Kind::Register => Ok(last(field)),
-        Kind::LwwSet | Kind::OrSet | Kind::Rga => match list(alloc, field)? {
+        Kind::LwwSet | Kind::OrSet | Kind::Rga | Kind::List => match list(alloc, field)? {
             Some(elements) => Ok(Some(list_query(kind, elements))),
             None => Ok(None),
         },
@@ -82,6 +104,7 @@ fn list_query(kind: Kind, elements: Elements) -> Op
         Kind::LwwSet => Op::LwwRead(elements),
         Kind::OrSet => Op::OrRead(elements),
         Kind::Rga => Op::RgaRead(elements),
+        Kind::List => Op::List(ListOp::Read(elements)),
         Kind::Counter | Kind::Register => unreachable!(),
     }
 }
@@ -170,6 +193,7 @@ fn plain_removal(kind: Kind, element: u32) -> Op
 {
     match kind {
         Kind::Rga => Op::RgaRemove(element),
+        Kind::List => Op::List(ListOp::Remove(element)),
         Kind::Counter | Kind::Register | Kind::LwwSet | Kind::OrSet => Op::LwwRemove(element),
     }
 }
@@ -183,5 +207,36 @@ fn after(fields: &mut Fields<'_>) -> Option<Op>
     match next_number(fields) {
         Some(element) => Some(Op::After { anchor, element }),
         None => None,
+    }
+}
+
+fn insert(fields: &mut Fields<'_>) -> Option<Op>
+    ensures { Reads (insert_first fields.old) result fields.new }
+{
+    let Some(left) = next_number(fields) else {
+        return None;
+    };
+    let Some(element) = next_number(fields) else {
+        return None;
+    };
+    match next_number(fields) {
+        Some(right) => Some(Op::List(ListOp::Insert(Insertion {
+            left,
+            element,
+            right,
+        }))),
+        None => None,
+    }
+}
+
+fn part(alloc: Global, fields: &mut Fields<'_>) -> Result<Option<Op>, NoMemory>
+    ensures { IfOk result (λ op. Reads (part_first fields.old) op fields.new) }
+{
+    let Some(field) = fields.take() else {
+        return Ok(None);
+    };
+    match list(alloc, field)? {
+        Some(elements) => Ok(Some(Op::List(ListOp::Part(elements)))),
+        None => Ok(None),
     }
 }

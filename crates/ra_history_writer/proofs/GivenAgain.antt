@@ -7,6 +7,7 @@ use Rattle.std.proofs.lemmas.Bool.{ltb-true, ltb-false, lt-ltb, le-ltb, not-fals
 use Rattle.std.proofs.lemmas.List.{reverse-append}
 use Rattle.ra_labels.specs.declared.kind.Kind.{Kind}
 use Rattle.ra_labels.specs.declared.kind.Kind.TheVariants.{Rga}
+use Rattle.ra_labels.specs.declared.kind.Kind.TheVariants as kinds
 use Rattle.ra_labels.specs.declared.operation.Op.{Op}
 use Rattle.ra_labels.specs.declared.operation.Op.TheVariants.{LwwRemove}
 use Rattle.ra_labels.specs.declared.command.Command.{Command}
@@ -88,6 +89,7 @@ first_none false why later e = (refl, e)
 
 own_words : (op : Op) (kind : Kind) → is_kind kind (kind_of op) ≡ true → has_words op kind ≡ true
 own_words (LwwRemove x) Rga e = absurd cc
+own_words (LwwRemove x) kinds.List e = absurd cc
 own_words (LwwRemove x) _ e = refl
 own_words _ kind e = cc
 

@@ -19,10 +19,13 @@ use Rattle.ra_labels.specs.declared.kind.Kind.{Kind}
 use Rattle.ra_labels.specs.declared.operation.Op.{Op}
 use Rattle.ra_labels.specs.declared.operation.Op.TheVariants.{Inc, Dec, Count, Write, Last, LwwAdd, LwwRemove, LwwRead}
 use Rattle.ra_labels.specs.declared.operation.Op.TheVariants.{OrAdd, OrRemove, OrRead, After, RgaRemove, RgaRead}
+use Rattle.ra_labels.specs.declared.operation.Op.TheVariants as op
+use Rattle.ra_labels.specs.declared.list_operation.ListOp.{ListOp}
+use Rattle.ra_labels.specs.declared.list_operation.ListOp.TheVariants as list_op
 use Rattle.ra_labels.specs.declared.command.Command.{Command}
 use Rattle.ra_labels.specs.declared.command.Command.TheVariants.{Operate, Deliver, Join, Verdict}
 use Rattle.ra_history_lines.specs.Grammar.{IsSmall, is_name, index_of_name, fields_of, list_word}
-use Rattle.ra_history_lines.specs.Grammar.{value_word, operation_fields, clock_fields, HasSmallNumbers, NamesReplica, Spells}
+use Rattle.ra_history_lines.specs.Grammar.{value_word, operation_fields, list_operation_fields, clock_fields, HasSmallNumbers, HasSmallElements, NamesReplica, Spells}
 use Rattle.ra_history_lines.specs.Names.{AreDistinctNames}
 use Rattle.ra_history_lines.specs.declared.format.Format.{Format}
 use Rattle.ra_history_lines.proofs.TheoremIndex.{name_bytes}
@@ -117,6 +120,18 @@ plain_word (b ∷ word) all =
     let parts = and_parts (ltb 32 b) (list_all (λ x. ltb 32 x) word) all in
     (ltb-true 32 b parts.0, plain_word word parts.1)
 
+plain_list_operation : (op : ListOp) → HasSmallElements op → ArePlain (list_operation_fields op)
+plain_list_operation (list_op.Insert insertion) small = (
+  plain_word (codes "insert") refl,
+  (
+    plain_number insertion.left small.0,
+    (plain_number insertion.element small.1, (plain_number insertion.right small.2, tt)),
+  ),
+)
+plain_list_operation (list_op.Remove x) small = (plain_word (codes "remove") refl, (plain_number x small, tt))
+plain_list_operation (list_op.Read list) small = (plain_word (codes "read") refl, (plain_list list small, tt))
+plain_list_operation (list_op.Part list) small = (plain_word (codes "part") refl, (plain_list list small, tt))
+
 pub plain_operation : (op : Op) → HasSmallNumbers op → ArePlain (operation_fields op)
 plain_operation Inc small = (plain_word (codes "inc") refl, tt)
 plain_operation Dec small = (plain_word (codes "dec") refl, tt)
@@ -135,6 +150,7 @@ plain_operation (After anchor x) small =
     (plain_word (codes "after") refl, (plain_number anchor small.0, (plain_number x small.1, tt)))
 plain_operation (RgaRemove x) small = (plain_word (codes "remove") refl, (plain_number x small, tt))
 plain_operation (RgaRead list) small = (plain_word (codes "read") refl, (plain_list list small, tt))
+plain_operation (op.List operation) small = plain_list_operation operation small
 
 pub plain_clock : (clock : Option ℕ) → IfSome clock IsSmall → ArePlain (clock_fields clock)
 plain_clock None small = tt

@@ -1,11 +1,11 @@
 //! The lengths of the lines of commands, computed without allocating. Sums have 128 bits, so none of them overflows.
 ghost use Rattle.std.specs.Prelude.{◌≡◌, ◌+◌, ◌*◌, ◌<◌, ◌≤◌, decimal, length};
 ghost use Rattle.std.specs.Fmt.{signed_decimal};
-ghost use Rattle.ra_history_lines.specs.Grammar.{operation_fields, clock_fields, list_word, value_word};
+ghost use Rattle.ra_history_lines.specs.Grammar.{operation_fields, list_operation_fields, clock_fields, list_word, value_word};
 ghost use Rattle.ra_history_writer.specs.Spelling.{spaced, commas, line_of, name_of};
 
 use ra_history_lines::Names;
-use ra_labels::{Command, Op};
+use ra_labels::{Command, ListOp, Op};
 
 /// Returns the length in bytes of the command's line, excluding the line feed. Does not allocate.
 ///
@@ -69,6 +69,20 @@ fn operation_size(op: &Op) -> u128
         Op::LwwRemove(element) | Op::RgaRemove(element) => 8 + number_size(*element),
         Op::OrRemove { element, ids } => 10 + number_size(*element) + list_size(ids.as_slice()),
         Op::After { anchor, element } => 8 + number_size(*anchor) + number_size(*element),
+        Op::List(op) => list_operation_size(op),
+    }
+}
+
+fn list_operation_size(op: &ListOp) -> u128
+    ensures exact { result ≡ length (spaced (list_operation_fields op.now)) }
+    ensures small { result < 340_282_366_920_938_463_463 }
+{
+    match op {
+        ListOp::Insert(at) => {
+            10 + number_size(at.left) + number_size(at.element) + number_size(at.right)
+        }
+        ListOp::Remove(element) => 8 + number_size(*element),
+        ListOp::Read(list) | ListOp::Part(list) => 6 + list_size(list.as_slice()),
     }
 }
 

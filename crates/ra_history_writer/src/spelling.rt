@@ -3,12 +3,13 @@ ghost use Rattle.std.specs.Prelude.{◌≡◌, ◌≤◌, ◌++◌, length, take
 ghost use Rattle.std.specs.List.{AllByRecursion};
 ghost use Rattle.std.specs.Fmt.{signed_decimal};
 ghost use Rattle.ra_labels.specs.declared.command.Command.TheVariants.{Join};
-ghost use Rattle.ra_history_lines.specs.Grammar.{operation_fields, clock_fields, list_word, value_word, HasSmallNumbers, IsSmall};
+ghost use Rattle.ra_labels.specs.declared.list_operation.ListOp.TheVariants as list_op;
+ghost use Rattle.ra_history_lines.specs.Grammar.{operation_fields, list_operation_fields, clock_fields, list_word, value_word, HasSmallNumbers, HasSmallElements, IsSmall};
 ghost use Rattle.ra_history_writer.specs.Spelling.{spaced, commas, line_of, name_of, AreSmall};
 
 use ra_history_lines::Names;
 use ra_history_lines::number::{put_number, put_numbered};
-use ra_labels::{Command, Elements, NoMemory, Op};
+use ra_labels::{Command, Elements, Insertion, ListOp, NoMemory, Op};
 
 /// Appends the line of the command to the buffer, without a line feed. A replica without a name is written as an empty
 /// name.
@@ -126,7 +127,36 @@ fn put_operation(out: &mut Vec<u8>, op: &Op) -> Result<(), NoMemory>
             put_numbered(out, b" after ", *anchor)?;
             put_numbered(out, b" ", *element)
         }
+        Op::List(op) => put_list_operation(out, op),
     }
+}
+
+fn put_list_operation(out: &mut Vec<u8>, op: &ListOp) -> Result<(), NoMemory>
+    ensures put { OnOk result (out.new.items ≡ out.old.items ++ spaced (list_operation_fields op.now)) }
+    ensures small { OnOk result (HasSmallElements op.now) }
+{
+    match op {
+        ListOp::Insert(insertion) => put_insertion(out, *insertion),
+        ListOp::Remove(element) => put_numbered(out, b" remove ", *element),
+        ListOp::Read(list) => {
+            out.extend_from_slice(b" read ")?;
+            put_list(out, list)
+        }
+        ListOp::Part(list) => {
+            out.extend_from_slice(b" part ")?;
+            put_list(out, list)
+        }
+    }
+}
+
+fn put_insertion(out: &mut Vec<u8>, insertion: Insertion) -> Result<(), NoMemory>
+    ensures put { OnOk result (out.new.items
+        ≡ out.old.items ++ spaced (list_operation_fields (list_op.Insert insertion))) }
+    ensures small { OnOk result (HasSmallElements (list_op.Insert insertion)) }
+{
+    put_numbered(out, b" insert ", insertion.left)?;
+    put_numbered(out, b" ", insertion.element)?;
+    put_numbered(out, b" ", insertion.right)
 }
 
 fn put_value(out: &mut Vec<u8>, value: Option<u32>) -> Result<(), NoMemory>

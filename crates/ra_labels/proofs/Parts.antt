@@ -7,6 +7,7 @@ use Rattle.std.proofs.lemmas.List.Elements.{Contains-append_left, Contains-appen
 use Rattle.std.proofs.lemmas.List.Folds.{list_all-append}
 use Rattle.ra_labels.specs.declared.operation.Op.{Op}
 use Rattle.ra_labels.specs.declared.operation.Op.TheVariants as op
+use Rattle.ra_labels.specs.declared.list_operation.ListOp.TheVariants as list
 use Rattle.ra_labels.specs.declared.label.Label.{Label}
 use Rattle.ra_labels.specs.Rewriting.{Part, Half, Act, acts_of, part_of, parts_of}
 use Rattle.ra_labels.specs.Linearization.{extends}
@@ -61,6 +62,10 @@ some_act (op.OrRead list) = (_, (0, omega arith, refl))
 some_act (op.After anchor x) = (_, (0, omega arith, refl))
 some_act (op.RgaRemove x) = (_, (0, omega arith, refl))
 some_act (op.RgaRead list) = (_, (0, omega arith, refl))
+some_act (op.List (list.Insert insertion)) = (_, (0, omega arith, refl))
+some_act (op.List (list.Remove x)) = (_, (0, omega arith, refl))
+some_act (op.List (list.Read elements)) = (_, (0, omega arith, refl))
+some_act (op.List (list.Part elements)) = (_, (0, omega arith, refl))
 
 pub some_part : (label : Label) → (part : Part) × Contains (parts_of label) part
 some_part label =

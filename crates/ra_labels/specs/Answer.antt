@@ -5,8 +5,10 @@ use Rattle.std.specs.List.{list_any}
 use Rattle.std.specs.Ordering.{is_eq}
 use Rattle.ra_labels.specs.declared.kind.Kind.{Kind}
 use Rattle.ra_labels.specs.declared.kind.Kind.TheVariants.{Counter, Register, LwwSet, OrSet, Rga}
+use Rattle.ra_labels.specs.declared.kind.Kind.TheVariants as kinds
 use Rattle.ra_labels.specs.declared.operation.Op.{Op}
 use Rattle.ra_labels.specs.declared.operation.Op.TheVariants.{Inc, Dec, Count, Write, Last, LwwAdd, LwwRemove, LwwRead, OrAdd, OrRemove, OrRead, After, RgaRemove, RgaRead}
+use Rattle.ra_labels.specs.declared.operation.Op.TheVariants as op
 use Rattle.ra_labels.specs.declared.label.Stamp.{Stamp}
 use Rattle.ra_labels.specs.declared.label.Label.{Label}
 use Rattle.ra_labels.specs.declared.command.Command.{Command}
@@ -48,6 +50,7 @@ kind_of (OrRead list) = OrSet
 kind_of (After anchor x) = Rga
 kind_of (RgaRemove x) = Rga
 kind_of (RgaRead list) = Rga
+kind_of (op.List operation) = kinds.List
 
 abbrev pub is_kind : Kind → Kind → Bool
 is_kind Counter Counter = true
@@ -55,6 +58,7 @@ is_kind Register Register = true
 is_kind LwwSet LwwSet = true
 is_kind OrSet OrSet = true
 is_kind Rga Rga = true
+is_kind kinds.List kinds.List = true
 is_kind _ _ = false
 
 -- `true` unless the operation returned a set's elements or identifiers in a list that is not strictly increasing
@@ -80,6 +84,7 @@ carries_stamp (OrRead list) = false
 carries_stamp (After anchor x) = true
 carries_stamp (RgaRemove x) = false
 carries_stamp (RgaRead list) = false
+carries_stamp (op.List operation) = false
 
 -- `true` if a clock is given and is not 0
 abbrev pub has_clock : Option ℕ → Bool

@@ -7,6 +7,7 @@ use Rattle.ra_labels.specs.declared.reply.Cause.{Cause}
 use Rattle.ra_labels.specs.declared.reply.Cause.TheVariants.{Order, Update, Query}
 use Rattle.ra_labels.specs.declared.reply.Fault.{Fault}
 use Rattle.ra_labels.specs.Records.{Records, label_count}
+use Rattle.ra_labels.specs.ListHistory.{keeps_an_order}
 use Rattle.ra_labels.specs.Linearization.{IsRaLinearization, extends_visibility, updates_admitted, queries_admitted}
 use Rattle.ra_labels.specs.NamedOrder.{named_sequence}
 
@@ -15,13 +16,18 @@ abbrev pub Holds : Kind → Records → Type 0
 Holds kind records = IsRaLinearization kind records (named_sequence kind records)
 
 -- the first condition that the named sequence fails; none if it meets all three
-abbrev pub cause_of : Kind → Records → Option Cause
-cause_of kind records =
+abbrev pub sequence_cause : Kind → Records → Option Cause
+sequence_cause kind records =
     let sequence = named_sequence kind records in
     if not (extends_visibility records sequence) then Some Order
     else if not (updates_admitted kind sequence) then Some Update
     else if not (queries_admitted kind records sequence) then Some Query
     else None
+
+-- the first condition that the named sequence fails; else the order if no order of the elements explains a list
+abbrev pub cause_of : Kind → Records → Option Cause
+cause_of kind records =
+    option_or (sequence_cause kind records) (if keeps_an_order kind records then None else Some Order)
 
 abbrev pub fault_at : ℕ → Cause → Fault
 fault_at n why = record { label = n; cause = why }

@@ -1,6 +1,13 @@
 pub mod Lists
+pub mod Edges
+pub mod Listing
+pub mod Reads
+pub mod Neighborhood
+pub mod FreeList
+pub mod ListOperations
 pub mod Specification
 pub mod Records
+pub mod ListHistory
 pub mod Visibility
 pub mod Places
 pub mod Rewriting

@@ -5,6 +5,7 @@ use Rattle.std.specs.Ordering.{nat_cmp, ordering_then, is_lt}
 use Rattle.std.specs.declared.cmp.Ordering.{Ordering}
 use Rattle.ra_labels.specs.declared.kind.Kind.{Kind}
 use Rattle.ra_labels.specs.declared.kind.Kind.TheVariants.{Counter, Register, LwwSet, OrSet, Rga}
+use Rattle.ra_labels.specs.declared.kind.Kind.TheVariants as kinds
 use Rattle.ra_labels.specs.declared.label.Stamp.{Stamp}
 use Rattle.ra_labels.specs.declared.label.Label.{Label}
 use Rattle.ra_labels.specs.Records.{Records, labels_of}
@@ -41,6 +42,7 @@ rank_of Register records label = timestamp_of records label
 rank_of LwwSet records label = timestamp_of records label
 rank_of OrSet records label = lowest_rank
 rank_of Rga records label = timestamp_of records label
+rank_of kinds.List records label = lowest_rank
 
 -- the order of labels: by rank, then by number
 abbrev pub label_cmp : Kind → Records → Label → Label → Ordering

@@ -2,10 +2,15 @@
 use Rattle.std.specs.Prelude.{◌∷◌, [], List, map, Option, Some, None, filter_map}
 use Rattle.ra_labels.specs.declared.operation.Op.{Op}
 use Rattle.ra_labels.specs.declared.operation.Op.TheVariants as op
+use Rattle.ra_labels.specs.declared.list_operation.ListOp.TheVariants as list
+use Rattle.ra_labels.specs.declared.list_operation.ListUpdate.TheVariants as change
+use Rattle.ra_labels.specs.declared.list_operation.ListQuery.TheVariants as ask
 use Rattle.ra_labels.specs.declared.operation.Update.{Update}
 use Rattle.ra_labels.specs.declared.operation.Update.TheVariants.{Inc, Dec, Write, LwwAdd, LwwRemove, OrAdd, TakeOut, After, RgaRemove}
+use Rattle.ra_labels.specs.declared.operation.Update.TheVariants as updates
 use Rattle.ra_labels.specs.declared.operation.Query.{Query}
 use Rattle.ra_labels.specs.declared.operation.Query.TheVariants.{Count, Last, LwwRead, ReadIds, OrRead, RgaRead}
+use Rattle.ra_labels.specs.declared.operation.Query.TheVariants as queries
 use Rattle.ra_labels.specs.declared.label.Label.{Label}
 
 -- which part of its label a part is: the whole label, or one of its two halves
@@ -40,6 +45,14 @@ acts_of (op.OrRead list) = (Whole, Asks (OrRead list)) ∷ []
 acts_of (op.After anchor x) = (Whole, Does (After anchor x)) ∷ []
 acts_of (op.RgaRemove x) = (Whole, Does (RgaRemove x)) ∷ []
 acts_of (op.RgaRead list) = (Whole, Asks (RgaRead list)) ∷ []
+acts_of (op.List (list.Insert insertion)) =
+    (QueryHalf, Asks (queries.List (ask.Near insertion))) ∷
+    (UpdateHalf, Does (updates.List (change.Put insertion))) ∷
+    []
+acts_of (op.List (list.Remove x)) =
+    (QueryHalf, Asks (queries.List (ask.Has x))) ∷ (UpdateHalf, Does (updates.List (change.Hide x))) ∷ []
+acts_of (op.List (list.Read elements)) = (Whole, Asks (queries.List (ask.Read elements))) ∷ []
+acts_of (op.List (list.Part elements)) = (Whole, Asks (queries.List (ask.Part elements))) ∷ []
 
 abbrev pub part_of : Label → Half × Act → Part
 part_of from act = record { label = from; half = act.0; act = act.1 }

@@ -1,17 +1,21 @@
 -- The sequential specification of each kind: an initial state, a partial step for each update, and a test of the answer
 -- of each query.
-use Rattle.std.specs.Prelude.{ℕ, ℤ, pos, ◌+ℤ◌, ◌-ℤ◌, ◌==◌, nat_eq, Bool, false, not, ◌&&◌, List, [], ◌∷◌, Option, Some, None, filter, option_and_then, fold, is_some, if◌then◌else◌}
+use Rattle.std.specs.Prelude.{ℕ, ℤ, pos, ◌+ℤ◌, ◌-ℤ◌, ◌==◌, nat_eq, Bool, false, not, ◌&&◌, List, [], ◌∷◌, Option, Some, None, filter, option_map, option_and_then, fold, is_some, if◌then◌else◌}
 use Rattle.std.specs.Option.{option_map_or, option_eq}
 use Rattle.std.specs.Ordering.{int_eq, nat_cmp}
 use Rattle.std.specs.Cmp.Lexicographic.{pointwise}
 use Rattle.std.specs.BTreeSet.{insert_key}
 use Rattle.ra_labels.specs.declared.kind.Kind.{Kind}
 use Rattle.ra_labels.specs.declared.kind.Kind.TheVariants.{Counter, Register, LwwSet, OrSet, Rga}
+use Rattle.ra_labels.specs.declared.kind.Kind.TheVariants as kinds
 use Rattle.ra_labels.specs.declared.operation.Update.{Update}
 use Rattle.ra_labels.specs.declared.operation.Update.TheVariants.{Inc, Dec, Write, LwwAdd, LwwRemove, OrAdd, TakeOut, After, RgaRemove}
+use Rattle.ra_labels.specs.declared.operation.Update.TheVariants as updates
 use Rattle.ra_labels.specs.declared.operation.Query.{Query}
 use Rattle.ra_labels.specs.declared.operation.Query.TheVariants.{Count, Last, LwwRead, ReadIds, OrRead, RgaRead}
+use Rattle.ra_labels.specs.declared.operation.Query.TheVariants as queries
 use Rattle.ra_labels.specs.Lists.{have_same_elements, pair_cmp, identifiers_of, elements_of, without_pairs, is_in_list, insert_after, hide, shown}
+use Rattle.ra_labels.specs.FreeList.{ListState, empty_list, list_step, list_answers}
 
 -- the state of one kind: the value that updates lead to
 pub data State : Type 0 where
@@ -25,6 +29,8 @@ pub data State : Type 0 where
   Pairs : List (ℕ × ℕ) → State
   -- of an RGA, its elements in their order, the root 0 first, each with whether a read shows it
   Listed : List (ℕ × Bool) → State
+  -- of a list, its elements without their order
+  Listing : ListState → State
 
 -- the initial state, before any update
 abbrev pub initial_state : Kind → State
@@ -33,6 +39,7 @@ initial_state Register = Written None
 initial_state LwwSet = Members []
 initial_state OrSet = Pairs []
 initial_state Rga = Listed ((0, false) ∷ [])
+initial_state kinds.List = Listing empty_list
 
 -- the state after the update; none if the state does not admit it
 abbrev pub step_of : State → Update → Option State
@@ -47,6 +54,7 @@ step_of (Listed list) (After anchor x) =
     if is_in_list anchor list && not (is_in_list x list) then Some (Listed (insert_after anchor x list)) else None
 step_of (Listed list) (RgaRemove x) =
     if is_in_list x list && not (x == 0) then Some (Listed (hide x list)) else None
+step_of (Listing list) (updates.List change) = option_map Listing (list_step list change)
 step_of _ _ = None
 
 -- `true` if the query's answer is right in the state
@@ -57,6 +65,7 @@ answers (Members xs) (LwwRead list) = have_same_elements list xs
 answers (Pairs pairs) (ReadIds x ids) = have_same_elements ids (identifiers_of x pairs)
 answers (Pairs pairs) (OrRead list) = have_same_elements list (elements_of pairs)
 answers (Listed entries) (RgaRead list) = pointwise nat_eq list (shown entries)
+answers (Listing list) (queries.List question) = list_answers list question
 answers _ _ = false
 
 -- the state after the updates, applied in this order; none if one of them is not admitted

@@ -3,12 +3,15 @@ use Rattle.std.specs.Prelude.{◌≡◌, ℕ, zero, suc, ◌<◌, ◌≤◌, ◌
 use Rattle.std.specs.List.{list_all}
 use Rattle.ra_labels.specs.declared.kind.Kind.{Kind}
 use Rattle.ra_labels.specs.declared.kind.Kind.TheVariants.{Counter, Register, LwwSet, OrSet, Rga}
+use Rattle.ra_labels.specs.declared.kind.Kind.TheVariants as kinds
 use Rattle.ra_labels.specs.declared.operation.Op.{Op}
 use Rattle.ra_labels.specs.declared.operation.Op.TheVariants as op
 use Rattle.ra_labels.specs.declared.operation.Update.{Update}
 use Rattle.ra_labels.specs.declared.operation.Update.TheVariants.{Inc, Dec, Write, LwwAdd, LwwRemove, OrAdd, TakeOut, After, RgaRemove}
+use Rattle.ra_labels.specs.declared.operation.Update.TheVariants as updates
 use Rattle.ra_labels.specs.declared.operation.Query.{Query}
 use Rattle.ra_labels.specs.declared.operation.Query.TheVariants.{Count, Last, LwwRead, ReadIds, OrRead, RgaRead}
+use Rattle.ra_labels.specs.declared.operation.Query.TheVariants as queries
 use Rattle.ra_labels.specs.declared.label.Stamp.{Stamp}
 use Rattle.ra_labels.specs.declared.label.Label.{Label}
 use Rattle.ra_labels.specs.declared.command.Command.{Command}
@@ -17,7 +20,7 @@ use Rattle.ra_labels.specs.declared.reply.Fault.{Fault}
 use Rattle.ra_labels.specs.declared.reply.Reply.{Reply}
 use Rattle.ra_labels.specs.declared.reply.Reply.TheVariants as reply
 use Rattle.ra_labels.specs.Lists.{is_among}
-use Rattle.ra_labels.specs.Specification.{State, Number, Written, Members, Pairs, Listed, answers, state_after}
+use Rattle.ra_labels.specs.Specification.{State, Number, Written, Members, Pairs, Listed, Listing, answers, state_after}
 use Rattle.ra_labels.specs.Records.{Records, label_count, labels_of, replica_count, stamp_at, records_to}
 use Rattle.ra_labels.specs.Visibility.{is_update, is_update_at, has_delivered, sees}
 use Rattle.ra_labels.specs.Places.{issuer_of, updates_issued, issue_position}
@@ -34,6 +37,7 @@ kind_of_state (Written last) = Register
 kind_of_state (Members xs) = LwwSet
 kind_of_state (Pairs pairs) = OrSet
 kind_of_state (Listed list) = Rga
+kind_of_state (Listing list) = kinds.List
 
 abbrev pub kind_of_update : Update → Kind
 kind_of_update Inc = Counter
@@ -45,6 +49,7 @@ kind_of_update (OrAdd x id) = OrSet
 kind_of_update (TakeOut x ids) = OrSet
 kind_of_update (After anchor x) = Rga
 kind_of_update (RgaRemove x) = Rga
+kind_of_update (updates.List change) = kinds.List
 
 abbrev pub kind_of_query : Query → Kind
 kind_of_query (Count v) = Counter
@@ -53,10 +58,20 @@ kind_of_query (LwwRead list) = LwwSet
 kind_of_query (ReadIds x ids) = OrSet
 kind_of_query (OrRead list) = OrSet
 kind_of_query (RgaRead list) = Rga
+kind_of_query (queries.List question) = kinds.List
 
 abbrev pub kind_of_act : Act → Kind
 kind_of_act (Does update) = kind_of_update update
 kind_of_act (Asks query) = kind_of_query query
+
+-- `true` if each state of the kind admits each of its updates
+abbrev pub admits_all : Kind → Bool
+admits_all Counter = true
+admits_all Register = true
+admits_all LwwSet = true
+admits_all OrSet = true
+admits_all Rga = false
+admits_all kinds.List = false
 
 -- `true` if the update adds the element to an LWW set or removes it
 abbrev pub acts_on : ℕ → Update → Bool

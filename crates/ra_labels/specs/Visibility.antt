@@ -4,7 +4,9 @@ use Rattle.std.specs.Option.{option_map_or}
 use Rattle.std.specs.List.{find, range_with_len}
 use Rattle.ra_labels.specs.declared.operation.Op.{Op}
 use Rattle.ra_labels.specs.declared.operation.Op.TheVariants.{Inc, Dec, Count, Write, Last, LwwAdd, LwwRemove, LwwRead, OrAdd, OrRemove, OrRead, After, RgaRemove, RgaRead}
+use Rattle.ra_labels.specs.declared.operation.Op.TheVariants as op
 use Rattle.ra_labels.specs.declared.command.Command.TheVariants.{Operate, Deliver, Join}
+use Rattle.ra_labels.specs.ListOperations.{changes_list}
 use Rattle.ra_labels.specs.Records.{Records, label_count, label_at}
 
 -- `true` if the operation may change the state, as an update or as a query-update
@@ -23,6 +25,7 @@ is_update (OrRead list) = false
 is_update (After anchor x) = true
 is_update (RgaRemove x) = true
 is_update (RgaRead list) = false
+is_update (op.List operation) = changes_list operation
 
 -- `true` if label n exists and is an update
 abbrev pub is_update_at : Records → ℕ → Bool

@@ -15,4 +15,7 @@ pub enum Kind {
     /// A replicated growable array (RGA): a list in which each element is inserted behind another one. Its named order
     /// is the timestamp order.
     Rga,
+    /// A list of any editor, which says of an insertion between which elements it is. One order of all elements, which
+    /// nobody reports, has to explain all insertions and reads. Its named order is the execution order.
+    List,
 }

@@ -10,10 +10,13 @@
 #![tactic(auto)]
 
 mod command;
+mod edge;
 mod elements;
+mod insertion;
 mod kind;
 mod label;
 mod limits;
+mod list_operation;
 pub mod lists;
 mod memory;
 mod operation;
@@ -21,10 +24,13 @@ mod refusal;
 mod reply;
 
 pub use command::Command;
+pub use edge::Edge;
 pub use elements::Elements;
+pub use insertion::Insertion;
 pub use kind::Kind;
 pub use label::{LOWEST, Label, Stamp};
 pub use limits::MOST_REPLICAS;
+pub use list_operation::{ListOp, ListQuery, ListUpdate};
 pub use memory::NoMemory;
 pub use operation::{Op, Query, Update};
 pub use refusal::{Refusal, fits};

@@ -3,6 +3,7 @@ ghost use Rattle.std.specs.Prelude.{◌≡◌};
 ghost use Rattle.ra_labels.specs.Visibility.{is_update};
 
 use crate::elements::Elements;
+use crate::list_operation::{ListOp, ListQuery, ListUpdate};
 
 /// An operation as a replica reports it, with its arguments and its return value.
 #[derive(Clone, Debug, PartialEq, Eq, Drop)]
@@ -50,10 +51,13 @@ pub enum Op {
     RgaRemove(u32),
     /// RGA: a read that returned these elements in this order.
     RgaRead(Elements),
+    /// List: an operation of it.
+    List(ListOp),
 }
 
 impl Op {
-    /// Returns `true` if the operation is an update. An OR-Set's removal is one, although it is a query as well.
+    /// Returns `true` if the operation is an update. An OR-Set's removal, and a list's insertion and removal, are
+    /// updates, although they are queries as well.
     pub fn is_update(&self) -> bool
         // The result is `true` exactly for the operations that the definitions call updates.
         ensures { result ≡ is_update self.now }
@@ -64,6 +68,7 @@ impl Op {
             Op::OrAdd { .. } | Op::OrRemove { .. } => true,
             Op::After { .. } | Op::RgaRemove(_) => true,
             Op::Count(_) | Op::Last(_) | Op::LwwRead(_) | Op::OrRead(_) | Op::RgaRead(_) => false,
+            Op::List(op) => op.is_update(),
         }
     }
 }
@@ -104,6 +109,8 @@ pub enum Update {
     },
     /// RGA: a removal of this element, after which reads no longer show it.
     RgaRemove(u32),
+    /// List: an insertion or a removal.
+    List(ListUpdate),
 }
 
 /// The query part of an operation: what it asks of the state of the sequential specification, with its answer.
@@ -126,4 +133,6 @@ pub enum Query {
     OrRead(Elements),
     /// RGA: the elements that are shown, in their order.
     RgaRead(Elements),
+    /// List: a test for elements, or a read.
+    List(ListQuery),
 }

@@ -82,6 +82,7 @@ fn kind_of(op: &Op) -> Kind
         Op::LwwAdd(_) | Op::LwwRemove(_) | Op::LwwRead(_) => Kind::LwwSet,
         Op::OrAdd { .. } | Op::OrRemove { .. } | Op::OrRead(_) => Kind::OrSet,
         Op::After { .. } | Op::RgaRemove(_) | Op::RgaRead(_) => Kind::Rga,
+        Op::List(_) => Kind::List,
     }
 }
 
@@ -115,6 +116,7 @@ fn carries_stamp(op: &Op) -> bool
         | Op::OrRemove { .. }
         | Op::OrRead(_)
         | Op::RgaRemove(_)
-        | Op::RgaRead(_) => false,
+        | Op::RgaRead(_)
+        | Op::List(_) => false,
     }
 }

@@ -4,9 +4,9 @@ use Rattle.std.specs.Prelude.{Contains, Option, Some, None, Result, Ok, Err, IfO
 use Rattle.std.proofs.lemmas.List.{append-nil, take_more}
 use Rattle.std.proofs.lemmas.List.Elements.{Contains-append_left, Contains-append_right, Contains-append_cases}
 use Rattle.ra_labels.proofs.Members.{head_or_behind, at_head, behind_head, none_there}
-use Rattle.ra_list_order.specs.declared.edge.Edge.{Edge}
-use Rattle.ra_list_order.specs.Edges.{HasEdge, IsCycle}
-use Rattle.ra_list_order.specs.Reads.{edges_of_read}
+use Rattle.ra_labels.specs.declared.edge.Edge.{Edge}
+use Rattle.ra_labels.specs.Edges.{HasEdge, IsCycle}
+use Rattle.ra_labels.specs.Reads.{edges_of_read}
 use Rattle.ra_list_edges.specs.Pairs.{AddsSome, AddsPairs, with_pairs}
 
 abbrev pub edge_of : ℕ → ℕ → ℕ → Edge

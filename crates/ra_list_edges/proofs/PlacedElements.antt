@@ -5,8 +5,8 @@ use Rattle.std.proofs.lemmas.Bool.{cases_Bool, cond-true, cond-false, eq-eqb, fa
 use Rattle.std.proofs.lemmas.List.Elements.{Contains-append_left, Contains-append_right, Contains-append_cases}
 use Rattle.ra_labels.proofs.Members.{head_or_behind, at_head, behind_head, none_there}
 use Rattle.ra_list_order.specs.ListOrder.{IsPut, ListOrder}
-use Rattle.ra_list_edges.specs.declared.insertion.Insertion.{Insertion}
-use Rattle.ra_list_edges.specs.Insertion.{IsKnown, named, neighborhood}
+use Rattle.ra_labels.specs.declared.insertion.Insertion.{Insertion}
+use Rattle.ra_labels.specs.Neighborhood.{IsKnown, named, neighborhood}
 
 -- one more element among the others keeps them
 kept_among : (front back : List ℕ) (x y : ℕ) → Contains (front ++ back) y → Contains (front ++ (x ∷ back)) y

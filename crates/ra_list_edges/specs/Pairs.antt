@@ -1,8 +1,8 @@
 -- The edges of operations: each listed element is before the next one.
 use Rattle.std.specs.Prelude.{◌≡◌, ℕ, ◌++◌, List, Contains}
-use Rattle.ra_list_order.specs.declared.edge.Edge.{Edge}
-use Rattle.ra_list_order.specs.Edges.{HasEdge}
-use Rattle.ra_list_order.specs.Reads.{edges_of_read}
+use Rattle.ra_labels.specs.declared.edge.Edge.{Edge}
+use Rattle.ra_labels.specs.Edges.{HasEdge}
+use Rattle.ra_labels.specs.Reads.{edges_of_read}
 
 -- the edges, and those of the operation with this label
 abbrev pub with_pairs : ℕ → List ℕ → List Edge → List Edge

@@ -5,13 +5,11 @@
 //! ones, and changes nothing but the order. So does a failed allocation.
 #![tactic(auto)]
 
-mod insertion;
 mod pairs;
 mod placing;
 mod read;
 #[cfg(test)]
 mod tests;
 
-pub use insertion::Insertion;
 pub use placing::add_insertion;
 pub use read::add_read;

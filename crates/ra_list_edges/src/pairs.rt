@@ -1,12 +1,12 @@
 //! The edges of an operation: each listed element is before the next one.
 ghost use Rattle.std.specs.Prelude.{◌≡◌, ℕ, ◌⊎◌, ◌++◌, ◌∷◌, [], Contains, IfOk, MatchOption};
 ghost use Rattle.std.specs.List.Sorted.{IsPermutation};
-ghost use Rattle.ra_list_order.specs.declared.edge.Edge.{Edge};
-ghost use Rattle.ra_list_order.specs.Edges.{HasEdge, IsCycle};
+ghost use Rattle.ra_labels.specs.declared.edge.Edge.{Edge};
+ghost use Rattle.ra_labels.specs.Edges.{HasEdge, IsCycle};
 ghost use Rattle.ra_list_edges.specs.Pairs.{AddsPairs, AddsSome, with_pairs};
 
-use ra_labels::NoMemory;
-use ra_list_order::{Edge, ListOrder};
+use ra_labels::{Edge, NoMemory};
+use ra_list_order::ListOrder;
 use std::alloc::Global;
 
 /// Adds an edge from each listed element to the next one, unless there is one, and returns `None`; or returns a cycle.

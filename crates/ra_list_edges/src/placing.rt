@@ -1,13 +1,12 @@
 //! The place of a new element in the kept order, and its edges.
 ghost use Rattle.std.specs.Prelude.{◌≡◌, ℕ, ◌<◌, ◌≤◌, ◌-◌, ◌++◌, ◌∷◌, [], length, take, drop, Contains, IfOk, OnOk, OnErr, MatchOption};
-ghost use Rattle.ra_list_order.specs.Edges.{IsCycle};
+ghost use Rattle.ra_labels.specs.Edges.{IsCycle};
 ghost use Rattle.ra_list_edges.specs.Pairs.{AddsPairs, AddsSome, with_pairs};
-ghost use Rattle.ra_list_edges.specs.Insertion.{IsKnown, neighborhood};
+ghost use Rattle.ra_labels.specs.Neighborhood.{IsKnown, neighborhood};
 
-use crate::insertion::Insertion;
 use crate::pairs::add_pairs;
-use ra_labels::NoMemory;
-use ra_list_order::{Edge, ListOrder};
+use ra_labels::{Edge, Insertion, NoMemory};
+use ra_list_order::ListOrder;
 use std::alloc::Global;
 
 /// Inserts a new element next to its neighbours, adds its edges, and returns `None`; or returns a cycle of these edges

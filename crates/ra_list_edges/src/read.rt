@@ -1,12 +1,12 @@
 //! The edges of a list that a replica returned.
 ghost use Rattle.std.specs.Prelude.{◌≡◌, ℕ, Contains, IfOk, OnErr, MatchOption};
 ghost use Rattle.std.specs.List.Sorted.{IsPermutation};
-ghost use Rattle.ra_list_order.specs.Edges.{IsCycle};
+ghost use Rattle.ra_labels.specs.Edges.{IsCycle};
 ghost use Rattle.ra_list_edges.specs.Pairs.{AddsPairs, with_pairs};
 
 use crate::pairs::add_pairs;
-use ra_labels::NoMemory;
-use ra_list_order::{Edge, ListOrder};
+use ra_labels::{Edge, NoMemory};
+use ra_list_order::ListOrder;
 use std::alloc::Global;
 
 /// Adds an edge from each listed element to the next one, unless there is one, and returns `None`; or returns a cycle

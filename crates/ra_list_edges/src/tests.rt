@@ -1,8 +1,8 @@
 //! Tests of what no clause states: calls succeed, and can be repeated after a failed allocation.
 ghost use Rattle.std.specs.Prelude.{◌≡◌, ℕ, Contains};
 
-use crate::{Insertion, add_insertion, add_read};
-use ra_labels::NoMemory;
+use crate::{add_insertion, add_read};
+use ra_labels::{Insertion, NoMemory};
 use ra_list_order::ListOrder;
 use std::alloc::Global;
 use std::process::Abort;

@@ -10,11 +10,11 @@ use Rattle.std.proofs.lemmas.List.{get_or_default, take_at, length-set, length_p
 use Rattle.ra_labels.proofs.Members.{none_there}
 use Rattle.std.proofs.lemmas.List.Elements.{Contains-append_left, Contains-append_right, Contains-append_cases, Contains-push_cases, Contains-push}
 use Rattle.ra_labels.specs.Lists.{is_among}
-use Rattle.ra_list_order.specs.declared.edge.Edge.{Edge}
-use Rattle.ra_list_order.specs.Edges.{HasEdge, IsCycle}
-use Rattle.ra_list_order.specs.Reads.{edges_of_read}
-use Rattle.ra_list_edges.specs.declared.insertion.Insertion.{Insertion}
-use Rattle.ra_list_edges.specs.Insertion.{neighborhood}
+use Rattle.ra_labels.specs.declared.edge.Edge.{Edge}
+use Rattle.ra_labels.specs.Edges.{HasEdge, IsCycle}
+use Rattle.ra_labels.specs.Reads.{edges_of_read}
+use Rattle.ra_labels.specs.declared.insertion.Insertion.{Insertion}
+use Rattle.ra_labels.specs.Neighborhood.{neighborhood}
 use Rattle.ra_list_edges.specs.Pairs.{AddsSome, AddsPairs, with_pairs}
 use Rattle.ra_list_replica.specs.declared.mark.Mark.{Mark}
 use Rattle.ra_list_replica.specs.declared.mark.Mark.TheVariants.{Shown, Removed}
@@ -22,10 +22,10 @@ use Rattle.ra_list_replica.specs.Numbers.{HasOneNumberEach}
 use Rattle.ra_list_replica.specs.View.{View, mark_at}
 use Rattle.ra_list_witness.specs.ListWitness.{ListWitness, no_view, view_at, mark_of, AreSameMarks, IsMarked}
 use Rattle.ra_list_witness.proofs.AdjacentPairs.{has_after}
-use Rattle.ra_list_model.specs.declared.operation.ListOp.TheVariants as op
-use Rattle.ra_list_model.specs.declared.operation.ListUpdate.{ListUpdate}
-use Rattle.ra_list_model.specs.declared.operation.ListUpdate.TheVariants.{Put, Hide}
-use Rattle.ra_list_model.specs.Free.{ListState, empty_list, can_insert, list_step}
+use Rattle.ra_labels.specs.declared.list_operation.ListOp.TheVariants as op
+use Rattle.ra_labels.specs.declared.list_operation.ListUpdate.{ListUpdate}
+use Rattle.ra_labels.specs.declared.list_operation.ListUpdate.TheVariants.{Put, Hide}
+use Rattle.ra_labels.specs.FreeList.{ListState, empty_list, can_insert, list_step}
 use Rattle.ra_list_model.proofs.AdmittedUpdates.{in_set}
 use Rattle.ra_list_effects.specs.declared.list_effects.Change.{Change}
 use Rattle.ra_list_effects.specs.declared.list_effects.Change.TheVariants as change

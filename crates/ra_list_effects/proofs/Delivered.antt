@@ -7,10 +7,10 @@ use Rattle.ra_labels.specs.Lists.{is_among}
 use Rattle.ra_labels.proofs.InLists.{among-exactly}
 use Rattle.ra_list_replica.specs.declared.mark.Mark.TheVariants.{Missing, Shown, Removed}
 use Rattle.ra_list_witness.specs.ListWitness.{ListWitness, view_at, mark_of, IsMarked}
-use Rattle.ra_list_edges.specs.declared.insertion.Insertion.{Insertion}
-use Rattle.ra_list_model.specs.declared.operation.ListUpdate.{ListUpdate}
-use Rattle.ra_list_model.specs.declared.operation.ListUpdate.TheVariants.{Put, Hide}
-use Rattle.ra_list_model.specs.Free.{ListState, can_insert, list_step, are_neighbors}
+use Rattle.ra_labels.specs.declared.insertion.Insertion.{Insertion}
+use Rattle.ra_labels.specs.declared.list_operation.ListUpdate.{ListUpdate}
+use Rattle.ra_labels.specs.declared.list_operation.ListUpdate.TheVariants.{Put, Hide}
+use Rattle.ra_labels.specs.FreeList.{ListState, can_insert, list_step, are_neighbors}
 use Rattle.ra_list_effects.specs.declared.list_effects.Change.{Change}
 use Rattle.ra_list_effects.specs.declared.list_effects.Change.TheVariants as change
 use Rattle.ra_list_effects.specs.Past.{Past, state_at, with_delivery}

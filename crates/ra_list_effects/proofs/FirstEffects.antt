@@ -7,7 +7,7 @@ use Rattle.ra_labels.proofs.Members.{none_there}
 use Rattle.ra_list_replica.specs.declared.mark.Mark.TheVariants.{Missing}
 use Rattle.ra_list_witness.specs.ListWitness.{ListWitness, view_at, mark_of}
 use Rattle.ra_list_witness.proofs.Views.{element_there}
-use Rattle.ra_list_model.specs.Free.{empty_list}
+use Rattle.ra_labels.specs.FreeList.{empty_list}
 use Rattle.ra_list_effects.specs.declared.list_effects.Change.{Change}
 use Rattle.ra_list_effects.specs.Past.{empty_past, state_at}
 use Rattle.ra_list_effects.specs.Effects.{AreEffectsOf}

@@ -8,14 +8,14 @@ use Rattle.ra_labels.specs.Lists.{is_among}
 use Rattle.ra_labels.specs.declared.reply.Cause.{Cause}
 use Rattle.ra_labels.specs.declared.reply.Cause.TheVariants.{Order, Update, Query}
 use Rattle.ra_labels.proofs.InLists.{among-exactly}
-use Rattle.ra_list_edges.specs.declared.insertion.Insertion.{Insertion}
-use Rattle.ra_list_edges.specs.Insertion.{IsKnown}
+use Rattle.ra_labels.specs.declared.insertion.Insertion.{Insertion}
+use Rattle.ra_labels.specs.Neighborhood.{IsKnown}
 use Rattle.ra_list_replica.specs.declared.mark.Mark.{Mark}
 use Rattle.ra_list_replica.specs.declared.mark.Mark.TheVariants.{Missing, Shown, Removed}
 use Rattle.ra_list_witness.specs.Causes.{HasElement, HasNeighbor, HasNeighbors, CanInsert, IsCauseOfInsertion}
-use Rattle.ra_list_model.specs.declared.operation.ListOp.TheVariants as op
-use Rattle.ra_list_model.specs.declared.operation.ListUpdate.TheVariants.{Put}
-use Rattle.ra_list_model.specs.Free.{ListState, is_neighbor, are_neighbors, can_insert}
+use Rattle.ra_labels.specs.declared.list_operation.ListOp.TheVariants as op
+use Rattle.ra_labels.specs.declared.list_operation.ListUpdate.TheVariants.{Put}
+use Rattle.ra_labels.specs.FreeList.{ListState, is_neighbor, are_neighbors, can_insert}
 use Rattle.ra_list_model.proofs.KeptUpdates.{three, all_three}
 use Rattle.ra_list_effects.specs.Past.{Past, state_at, cause_at, admits}
 use Rattle.ra_list_effects.specs.Views.{mark_in, IsViewOf}

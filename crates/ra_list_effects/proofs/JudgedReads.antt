@@ -15,10 +15,10 @@ use Rattle.ra_list_replica.specs.declared.mark.Mark.TheVariants.{Missing, Shown,
 use Rattle.ra_list_replica.specs.View.{mark_at, IsShown, IsPart, IsRead}
 use Rattle.ra_list_witness.specs.Causes.{IsHadAs, IsCauseAt}
 use Rattle.ra_list_witness.proofs.Views.{element_there}
-use Rattle.ra_list_model.specs.declared.operation.ListOp.TheVariants as op
-use Rattle.ra_list_model.specs.declared.operation.ListUpdate.TheVariants.{Hide}
-use Rattle.ra_list_model.specs.declared.operation.ListQuery.TheVariants.{Read, Part}
-use Rattle.ra_list_model.specs.Free.{ListState, shown_in, has_each_once, list_answers}
+use Rattle.ra_labels.specs.declared.list_operation.ListOp.TheVariants as op
+use Rattle.ra_labels.specs.declared.list_operation.ListUpdate.TheVariants.{Hide}
+use Rattle.ra_labels.specs.declared.list_operation.ListQuery.TheVariants.{Read, Part}
+use Rattle.ra_labels.specs.FreeList.{ListState, shown_in, has_each_once, list_answers}
 use Rattle.ra_list_effects.specs.Past.{Past, state_at, cause_at, admits}
 use Rattle.ra_list_effects.specs.Views.{mark_in, IsViewOf}
 use Rattle.ra_list_effects.proofs.JudgedOperations.{mark_missing, mark_there, has_exactly, is_some_if}

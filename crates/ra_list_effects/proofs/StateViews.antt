@@ -17,7 +17,7 @@ use Rattle.ra_list_replica.specs.Numbers.{HasOneNumberEach}
 use Rattle.ra_list_replica.specs.View.{View, mark_at}
 use Rattle.ra_list_witness.specs.ListWitness.{view_at, mark_of, IsMarked}
 use Rattle.ra_list_witness.proofs.Views.{element_there}
-use Rattle.ra_list_model.specs.Free.{ListState, empty_list}
+use Rattle.ra_labels.specs.FreeList.{ListState, empty_list}
 use Rattle.ra_list_model.proofs.AdmittedUpdates.{in_set}
 use Rattle.ra_list_model.proofs.OnceListed.{same_bool}
 use Rattle.ra_list_effects.specs.Past.{state_at}

@@ -1,18 +1,18 @@
 -- The condition that effects are those of a past, and what the test of an operation finds.
 use Rattle.std.specs.Prelude.{◌≡◌, ◌↔◌, ℕ, ◌<◌, List, Option, Some, None, length, get_or, Contains}
 use Rattle.std.specs.List.{slice_get}
-use Rattle.ra_list_order.specs.declared.edge.Edge.{Edge}
-use Rattle.ra_list_order.specs.Edges.{HasEdge}
+use Rattle.ra_labels.specs.declared.edge.Edge.{Edge}
+use Rattle.ra_labels.specs.Edges.{HasEdge}
 use Rattle.ra_list_replica.specs.Numbers.{AreNumbersOf, HasOneNumberEach}
 use Rattle.ra_list_replica.specs.View.{IsPart}
 use Rattle.ra_list_replica.specs.Listing.{AreAsLast}
 use Rattle.ra_list_witness.specs.ListWitness.{ListWitness, view_at}
 use Rattle.ra_list_witness.specs.Causes.{IsHadAs, CanInsert}
-use Rattle.ra_list_model.specs.declared.operation.ListOp.{ListOp}
-use Rattle.ra_list_model.specs.declared.operation.ListOp.TheVariants as op
-use Rattle.ra_list_model.specs.declared.operation.ListUpdate.{ListUpdate}
-use Rattle.ra_list_model.specs.declared.operation.ListUpdate.TheVariants as update
-use Rattle.ra_list_model.specs.Free.{list_step}
+use Rattle.ra_labels.specs.declared.list_operation.ListOp.{ListOp}
+use Rattle.ra_labels.specs.declared.list_operation.ListOp.TheVariants as op
+use Rattle.ra_labels.specs.declared.list_operation.ListUpdate.{ListUpdate}
+use Rattle.ra_labels.specs.declared.list_operation.ListUpdate.TheVariants as update
+use Rattle.ra_labels.specs.FreeList.{list_step}
 use Rattle.ra_list_effects.specs.declared.list_effects.Change.{Change}
 use Rattle.ra_list_effects.specs.declared.list_effects.Change.TheVariants.{Show, Hide}
 use Rattle.ra_list_effects.specs.declared.list_effects.Found.{Found}

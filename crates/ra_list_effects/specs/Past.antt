@@ -2,11 +2,11 @@
 use Rattle.std.specs.Prelude.{ℕ, Bool, true, not, List, [], ◌∷◌, ◌++◌, Option, Some, None, get_or, set, replicate, unwrap_or, is_some, if◌then◌else◌}
 use Rattle.ra_labels.specs.declared.reply.Cause.{Cause}
 use Rattle.ra_labels.specs.declared.reply.Cause.TheVariants.{Update, Query}
-use Rattle.ra_list_order.specs.declared.edge.Edge.{Edge}
-use Rattle.ra_list_model.specs.declared.operation.ListOp.{ListOp}
-use Rattle.ra_list_model.specs.declared.operation.ListUpdate.{ListUpdate}
-use Rattle.ra_list_model.specs.Operations.{query_of, update_of, edges_of}
-use Rattle.ra_list_model.specs.Free.{ListState, empty_list, list_step, list_answers}
+use Rattle.ra_labels.specs.declared.edge.Edge.{Edge}
+use Rattle.ra_labels.specs.declared.list_operation.ListOp.{ListOp}
+use Rattle.ra_labels.specs.declared.list_operation.ListUpdate.{ListUpdate}
+use Rattle.ra_labels.specs.ListOperations.{query_of, update_of, edges_of}
+use Rattle.ra_labels.specs.FreeList.{ListState, empty_list, list_step, list_answers}
 
 pub record Past : Type 0 where
   -- the state after all updates

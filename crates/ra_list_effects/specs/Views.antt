@@ -5,7 +5,7 @@ use Rattle.ra_labels.specs.Lists.{is_among}
 use Rattle.ra_list_replica.specs.declared.mark.Mark.{Mark}
 use Rattle.ra_list_replica.specs.declared.mark.Mark.TheVariants.{Missing, Shown, Removed}
 use Rattle.ra_list_replica.specs.View.{mark_at}
-use Rattle.ra_list_model.specs.Free.{ListState}
+use Rattle.ra_labels.specs.FreeList.{ListState}
 
 -- the mark of an element in a state
 abbrev pub mark_in : ListState → ℕ → Mark

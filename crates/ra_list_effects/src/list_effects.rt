@@ -1,24 +1,22 @@
 //! The effects of the operations of one list.
-ghost use Rattle.std.specs.Prelude.{◌≡◌, ℕ, ◌<◌, ◌++◌, length, None, Some, Contains, IfOk, OnOk, OnErr, MatchOption};
+ghost use Rattle.std.specs.Prelude.{◌≡◌, ℕ, ◌<◌, ◌++◌, length, get_or, None, Some, is_some, Contains, IfOk, IfSome, OnOk, OnErr, MatchOption};
 ghost use Rattle.std.specs.List.{slice_get};
 ghost use Rattle.std.specs.Result.{result_err};
 ghost use Rattle.ra_list_replica.specs.declared.mark.Mark.TheVariants as marks;
 ghost use Rattle.ra_list_replica.specs.View.{IsPart};
 ghost use Rattle.ra_list_witness.specs.ListWitness.{view_at, mark_of};
 ghost use Rattle.ra_list_witness.specs.Causes.{CanInsert};
-ghost use Rattle.ra_list_order.specs.Edges.{EachOnce, Extends, IsCycle};
-ghost use Rattle.ra_list_model.specs.declared.operation.ListOp.TheVariants as op;
-ghost use Rattle.ra_list_model.specs.declared.operation.ListUpdate.{ListUpdate};
-ghost use Rattle.ra_list_model.specs.Operations.{edges_of};
-ghost use Rattle.ra_list_model.specs.Free.{list_step};
+ghost use Rattle.ra_labels.specs.Edges.{EachOnce, Extends, IsCycle};
+ghost use Rattle.ra_labels.specs.declared.list_operation.ListOp.TheVariants as op;
+ghost use Rattle.ra_labels.specs.declared.list_operation.ListUpdate.{ListUpdate};
+ghost use Rattle.ra_labels.specs.ListOperations.{edges_of};
+ghost use Rattle.ra_labels.specs.FreeList.{list_step};
 ghost use Rattle.ra_list_effects.specs.declared.list_effects.Found.TheVariants as found;
 ghost use Rattle.ra_list_effects.specs.Past.{Past, empty_past, state_at, cause_at, with_operation, with_delivery, with_join};
 ghost use Rattle.ra_list_effects.specs.Effects.{AreEffectsOf, IsFoundFor, MayDeliver};
 
-use ra_labels::{Cause, NoMemory};
-use ra_list_edges::Insertion;
-use ra_list_model::ListOp;
-use ra_list_order::{Edge, ListOrder};
+use ra_labels::{Cause, Edge, Insertion, ListOp, NoMemory};
+use ra_list_order::ListOrder;
 use ra_list_replica::Listed;
 use ra_list_witness::ListWitness;
 use std::alloc::Global;
@@ -149,6 +147,9 @@ impl ListEffects {
             → IfOk result (λ found. MatchOption found
             (AreEffectsOf self.new (with_operation past replica op.now label))
             (λ cycle. AreEffectsOf self.new past × IsCycle (past.edges ++ edges_of label op.now) cycle.items)) }
+        // If a cycle is returned, every past that was represented is.
+        ensures unchanged { (past : Past) → AreEffectsOf self.old past
+            → IfOk result (λ found. IfSome found (λ cycle. AreEffectsOf self.new past)) }
         // After a failed allocation the same past is represented.
         ensures failed { (past : Past) → AreEffectsOf self.old past → OnErr result (AreEffectsOf self.new past) }
     {
@@ -241,6 +242,24 @@ impl ListEffects {
         self.witness.len()
     }
 
+    /// Returns `true` if the operation has an update. Operations are counted from 0 in the order in which they were
+    /// added.
+    pub fn has_update(&self, operation: u32) -> bool
+        // The result is `true` exactly if the operation exists and has an update.
+        ensures { (past : Past) → AreEffectsOf self.now past
+            → result ≡ is_some (get_or past.updates operation None) }
+    {
+        match self.changes.get(operation as usize) {
+            Some(change) => change.is_some(),
+            None => false,
+        }
+    }
+
+    /// Returns the allocator of the collections.
+    pub fn allocator(&self) -> Global {
+        *self.changes.allocator()
+    }
+
     /// Returns the kept order.
     pub fn order(&self) -> &ListOrder
         // The order has each element once.
@@ -272,6 +291,8 @@ impl ListEffects {
             (AreEffectsOf self.new (with_operation past replica (op.Insert insertion) label))
             (λ cycle. AreEffectsOf self.new past × IsCycle (past.edges ++ edges_of label (op.Insert insertion))
             cycle.items)) }
+        ensures unchanged { (past : Past) → AreEffectsOf self.old past
+            → IfOk result (λ found. IfSome found (λ cycle. AreEffectsOf self.new past)) }
         ensures failed { (past : Past) → AreEffectsOf self.old past → OnErr result (AreEffectsOf self.new past) }
     {
         let number = self.witness.len() as u32;

@@ -2,9 +2,7 @@
 ghost use Rattle.std.specs.Prelude.{◌<◌};
 
 use crate::ListEffects;
-use ra_labels::{Cause, Elements, NoMemory};
-use ra_list_edges::Insertion;
-use ra_list_model::ListOp;
+use ra_labels::{Cause, Elements, Insertion, ListOp, NoMemory};
 use std::alloc::Global;
 use std::process::Abort;
 use std::test::Fail;

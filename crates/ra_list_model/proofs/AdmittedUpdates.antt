@@ -9,9 +9,9 @@ use Rattle.std.proofs.lemmas.Option.{none-some, same_Some}
 use Rattle.ra_labels.specs.Lists.{is_among}
 use Rattle.ra_labels.proofs.InLists.{among-exactly}
 use Rattle.ra_labels.proofs.Members.{head_or_behind, at_head, behind_head, none_there}
-use Rattle.ra_list_model.specs.declared.operation.ListUpdate.{ListUpdate}
-use Rattle.ra_list_model.specs.declared.operation.ListUpdate.TheVariants.{Put, Hide}
-use Rattle.ra_list_model.specs.Free.{ListState, empty_list, can_insert, list_step, list_state_from, list_state_after}
+use Rattle.ra_labels.specs.declared.list_operation.ListUpdate.{ListUpdate}
+use Rattle.ra_labels.specs.declared.list_operation.ListUpdate.TheVariants.{Put, Hide}
+use Rattle.ra_labels.specs.FreeList.{ListState, empty_list, can_insert, list_step, list_state_from, list_state_after}
 use Rattle.ra_list_model.specs.Kept.{Puts}
 use Rattle.ra_list_model.proofs.BetweenNeighbors.{chosen}
 
@@ -137,12 +137,12 @@ led_from None updates t led = absurd (none-some t (sym (stuck updates) ∙ led))
 led_from (Some s) updates t led = (s, refl, led)
 
 -- the updates that insert an element
-puts_head : (update : ListUpdate) (updates : List ListUpdate) (x : ℕ) → PutsOne update x → Puts x (update ∷ updates)
+pub puts_head : (update : ListUpdate) (updates : List ListUpdate) (x : ℕ) → PutsOne update x → Puts x (update ∷ updates)
 puts_head (Put insertion) updates x is =
     (insertion, at_head (Put insertion) updates (Put insertion) refl, is)
 puts_head (Hide y) updates x is = absurd is
 
-puts_behind : (update : ListUpdate) (updates : List ListUpdate) (x : ℕ) → Puts x updates → Puts x (update ∷ updates)
+pub puts_behind : (update : ListUpdate) (updates : List ListUpdate) (x : ℕ) → Puts x updates → Puts x (update ∷ updates)
 puts_behind update updates x (insertion, there, is) =
     (insertion, behind_head update updates (Put insertion) there, is)
 
@@ -195,7 +195,7 @@ inserted_from (update ∷ updates) s t x led =
       ])),
     )
 
-removed_from : (updates : List ListUpdate) (s t : ListState) (x : ℕ) → list_state_from (Some s) updates ≡ Some t
+pub removed_from : (updates : List ListUpdate) (s t : ListState) (x : ℕ) → list_state_from (Some s) updates ≡ Some t
     → Contains t.removed x ↔ (Contains s.removed x ⊎ Contains updates (Hide x))
 removed_from [] s t x led =
     let same : s ≡ t = same_Some s t led in (

@@ -8,13 +8,13 @@ use Rattle.std.specs.Cmp.{unsigned_Decides}
 use Rattle.ra_labels.specs.Lists.{is_among, have_same_elements}
 use Rattle.ra_labels.proofs.InLists.{among-exactly, same-exactly, list_all-contains}
 use Rattle.ra_labels.proofs.Members.{there-kept, none_there}
-use Rattle.ra_list_order.specs.Edges.{EachOnce, Extends}
-use Rattle.ra_list_order.specs.Reads.{edges_of_read, in_order}
+use Rattle.ra_labels.specs.Edges.{EachOnce, Extends}
+use Rattle.ra_labels.specs.Reads.{edges_of_read, in_order}
 use Rattle.ra_list_order.proofs.ReadLists.{extends_read_iff}
-use Rattle.ra_list_model.specs.declared.operation.ListQuery.{ListQuery}
-use Rattle.ra_list_model.specs.declared.operation.ListQuery.TheVariants.{Near, Has, Read, Part}
-use Rattle.ra_list_model.specs.Operations.{edges_of_query}
-use Rattle.ra_list_model.specs.Free.{ListState, shown_in, has_each_once, list_answers}
+use Rattle.ra_labels.specs.declared.list_operation.ListQuery.{ListQuery}
+use Rattle.ra_labels.specs.declared.list_operation.ListQuery.TheVariants.{Near, Has, Read, Part}
+use Rattle.ra_labels.specs.ListOperations.{edges_of_query}
+use Rattle.ra_labels.specs.FreeList.{ListState, shown_in, has_each_once, list_answers}
 use Rattle.ra_list_model.specs.Ordered.{list_answers_at, IsOrderFor}
 use Rattle.ra_list_model.proofs.OnceListed.{once_exactly, once_kept, in_order_exactly, in_order_same}
 

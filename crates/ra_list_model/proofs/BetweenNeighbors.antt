@@ -6,16 +6,16 @@ use Rattle.std.proofs.lemmas.Option.{none-some}
 use Rattle.ra_labels.specs.Lists.{is_among}
 use Rattle.ra_labels.proofs.InLists.{among-exactly}
 use Rattle.ra_labels.proofs.Members.{head_or_behind, at_head, behind_head}
-use Rattle.ra_list_order.specs.declared.edge.Edge.{Edge}
-use Rattle.ra_list_order.specs.Edges.{IsBefore, Extends}
-use Rattle.ra_list_order.specs.Reads.{edges_of_read}
+use Rattle.ra_labels.specs.declared.edge.Edge.{Edge}
+use Rattle.ra_labels.specs.Edges.{IsBefore, Extends}
+use Rattle.ra_labels.specs.Reads.{edges_of_read}
 use Rattle.ra_list_order.proofs.ReadLists.{edge_of}
-use Rattle.ra_list_edges.specs.declared.insertion.Insertion.{Insertion}
-use Rattle.ra_list_edges.specs.Insertion.{named}
-use Rattle.ra_list_model.specs.declared.operation.ListUpdate.{ListUpdate}
-use Rattle.ra_list_model.specs.declared.operation.ListUpdate.TheVariants.{Put, Hide}
-use Rattle.ra_list_model.specs.Operations.{edges_of_update}
-use Rattle.ra_list_model.specs.Free.{ListState, list_step}
+use Rattle.ra_labels.specs.declared.insertion.Insertion.{Insertion}
+use Rattle.ra_labels.specs.Neighborhood.{named}
+use Rattle.ra_labels.specs.declared.list_operation.ListUpdate.{ListUpdate}
+use Rattle.ra_labels.specs.declared.list_operation.ListUpdate.TheVariants.{Put, Hide}
+use Rattle.ra_labels.specs.ListOperations.{edges_of_update}
+use Rattle.ra_labels.specs.FreeList.{ListState, list_step}
 use Rattle.ra_list_model.specs.Order.{is_before}
 use Rattle.ra_list_model.specs.Ordered.{is_between, list_step_at}
 use Rattle.ra_list_model.proofs.AnsweredQueries.{no_edges}

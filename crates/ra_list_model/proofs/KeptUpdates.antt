@@ -8,10 +8,10 @@ use Rattle.std.proofs.lemmas.List.Elements.{filter-append, Contains-append_right
 use Rattle.ra_labels.specs.Lists.{is_among}
 use Rattle.ra_labels.proofs.InLists.{among-exactly}
 use Rattle.ra_labels.proofs.Members.{at_head, none_there, kept-there, there-kept, reached, from_where}
-use Rattle.ra_list_edges.specs.declared.insertion.Insertion.{Insertion}
-use Rattle.ra_list_model.specs.declared.operation.ListUpdate.{ListUpdate}
-use Rattle.ra_list_model.specs.declared.operation.ListUpdate.TheVariants.{Put, Hide}
-use Rattle.ra_list_model.specs.Free.{ListState, empty_list, is_neighbor, are_neighbors, can_insert, list_step, list_state_from, list_state_after}
+use Rattle.ra_labels.specs.declared.insertion.Insertion.{Insertion}
+use Rattle.ra_labels.specs.declared.list_operation.ListUpdate.{ListUpdate}
+use Rattle.ra_labels.specs.declared.list_operation.ListUpdate.TheVariants.{Put, Hide}
+use Rattle.ra_labels.specs.FreeList.{ListState, empty_list, is_neighbor, are_neighbors, can_insert, list_step, list_state_from, list_state_after}
 use Rattle.ra_list_model.specs.Kept.{Puts, Needs, KeepsWhatIsNeeded, kept_by, updates_in}
 use Rattle.ra_list_model.proofs.BetweenNeighbors.{chosen}
 use Rattle.ra_list_model.proofs.AdmittedUpdates.{PutsOne, led_from, puts_cases, step_inserted, inserted_from}
@@ -37,7 +37,7 @@ admitted_parts s t insertion led =
     (chosen (can_insert s insertion) _ t led).0
 
 -- an element that is there is not inserted again
-inserts_new : (s t : ListState) (update : ListUpdate) (x : ℕ) → list_step s update ≡ Some t → PutsOne update x
+pub inserts_new : (s t : ListState) (update : ListUpdate) (x : ℕ) → list_step s update ≡ Some t → PutsOne update x
     → ¬ Contains s.inserted x
 inserts_new s t (Put insertion) x led is there =
     let parts = admitted_parts s t insertion led in
@@ -45,7 +45,7 @@ inserts_new s t (Put insertion) x led is there =
     ∙ (among-exactly insertion.element s.inserted).1 (subst (Contains s.inserted) (sym is) there))
 inserts_new s t (Hide y) x led is there = is
 
-no_second : (updates : List ListUpdate) (s t : ListState) (x : ℕ) → list_state_from (Some s) updates ≡ Some t
+pub no_second : (updates : List ListUpdate) (s t : ListState) (x : ℕ) → list_state_from (Some s) updates ≡ Some t
     → Contains s.inserted x → ¬ Puts x updates
 no_second [] s t x led there (insertion, found, is) = none_there (Put insertion) found
 no_second (update ∷ updates) s t x led there puts =
@@ -67,11 +67,12 @@ neighbor_still s t x was needs = elim (cases_Bool (x == 0)) [
   ]
 ]
 
-step_still : (s r t : ListState) (update : ListUpdate) → list_step s update ≡ Some r
+-- so the step is admitted in any state that has what it needs and not the element that it inserts
+pub step_again : (s r t : ListState) (update : ListUpdate) → list_step s update ≡ Some r
     → ((x : ℕ) → Needs update x → Contains s.inserted x → Contains t.inserted x)
-    → ((x : ℕ) → Contains t.inserted x → Contains s.inserted x)
+    → ((x : ℕ) → PutsOne update x → ¬ Contains t.inserted x)
     → (v : ListState) × (list_step t update ≡ Some v)
-step_still s r t (Put insertion) led needs fewer =
+step_again s r t (Put insertion) led needs absent =
     let x = insertion.element in
     let parts = admitted_parts s r insertion led in
     let near = and_parts (is_neighbor s insertion.left) (is_neighbor s insertion.right) parts.2 in
@@ -81,21 +82,27 @@ step_still s r t (Put insertion) led needs fewer =
     (neighbor_still s t insertion.right near.1 (λ some there. needs insertion.right (some, inr refl) there)) in
     let new : not (is_among x t.inserted) ≡ true =
     not_from_false (is_among x t.inserted) (false_from_ne_true (is_among x t.inserted) (λ is.
-    false≢true (sym (not-true (is_among x s.inserted) parts.1)
-    ∙ (among-exactly x s.inserted).1 (fewer x ((among-exactly x t.inserted).0 is))))) in (
+    absent x refl ((among-exactly x t.inserted).0 is))) in (
       _,
       cond-true (can_insert t insertion) _ None
           (all_three (not (x == 0)) (not (is_among x t.inserted)) (are_neighbors t insertion) parts.0 new still),
     )
-step_still s r t (Hide y) led needs fewer =
+step_again s r t (Hide y) led needs absent =
     let (can, is) = chosen (is_among y s.inserted) _ r led in (
       _,
       cond-true (is_among y t.inserted) _ None ((among-exactly y t.inserted).1
           (needs y refl ((among-exactly y s.inserted).0 can))),
     )
 
+step_still : (s r t : ListState) (update : ListUpdate) → list_step s update ≡ Some r
+    → ((x : ℕ) → Needs update x → Contains s.inserted x → Contains t.inserted x)
+    → ((x : ℕ) → Contains t.inserted x → Contains s.inserted x)
+    → (v : ListState) × (list_step t update ≡ Some v)
+step_still s r t update led needs fewer =
+    step_again s r t update led needs (λ x is there. inserts_new s r update x led is (fewer x there))
+
 -- an update that is admitted needs only elements that are there
-needs_there : (s r : ListState) (update : ListUpdate) (x : ℕ) → list_step s update ≡ Some r → Needs update x
+pub needs_there : (s r : ListState) (update : ListUpdate) (x : ℕ) → list_step s update ≡ Some r → Needs update x
     → Contains s.inserted x
 needs_there s r (Put insertion) x led (some, which) =
     let parts = admitted_parts s r insertion led in

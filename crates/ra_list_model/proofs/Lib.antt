@@ -2,5 +2,8 @@ pub mod AdmittedUpdates
 pub mod AnsweredQueries
 pub mod BetweenNeighbors
 pub mod KeptUpdates
+pub mod LateUpdates
 pub mod OnceListed
 pub mod OrderedUpdates
+pub mod ReorderedUpdates
+pub mod RisingStates

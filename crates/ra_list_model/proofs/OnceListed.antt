@@ -7,10 +7,10 @@ use Rattle.std.proofs.lemmas.List.Sums.{sum_by-cons}
 use Rattle.ra_labels.specs.Lists.{is_among}
 use Rattle.ra_labels.proofs.InLists.{among-exactly}
 use Rattle.ra_labels.proofs.Members.{head_or_behind, at_head, behind_head, none_there, there-kept, kept-there}
-use Rattle.ra_list_order.specs.Edges.{EachOnce}
-use Rattle.ra_list_order.specs.Reads.{in_order}
+use Rattle.ra_labels.specs.Edges.{EachOnce}
+use Rattle.ra_labels.specs.Reads.{in_order}
 use Rattle.ra_list_order.proofs.Cycles.{AreNew, new_from_once}
-use Rattle.ra_list_model.specs.Free.{has_each_once}
+use Rattle.ra_labels.specs.FreeList.{has_each_once}
 
 -- an element that is not in the list is counted 0 times
 counted_none : (xs : List ℕ) (x : ℕ) → ¬ Contains xs x → count_by (λ y. y == x) xs ≡ 0

@@ -2,11 +2,11 @@
 use Rattle.std.proofs.Common.{◌≡◌, ◌↔◌, ℕ, List, [], ◌∷◌, ◌++◌, Option, Some, None, refl, sym, ap, ◌∙◌, inl, inr}
 use Rattle.std.proofs.lemmas.Option.{none-some}
 use Rattle.std.proofs.lemmas.List.Elements.{Contains-append_left, Contains-append_right, Contains-append_cases}
-use Rattle.ra_list_order.specs.declared.edge.Edge.{Edge}
-use Rattle.ra_list_order.specs.Edges.{Extends}
-use Rattle.ra_list_model.specs.declared.operation.ListUpdate.{ListUpdate}
-use Rattle.ra_list_model.specs.Operations.{edges_of_update, edges_of_updates}
-use Rattle.ra_list_model.specs.Free.{ListState, empty_list, list_step, list_state_from, list_state_after}
+use Rattle.ra_labels.specs.declared.edge.Edge.{Edge}
+use Rattle.ra_labels.specs.Edges.{Extends}
+use Rattle.ra_labels.specs.declared.list_operation.ListUpdate.{ListUpdate}
+use Rattle.ra_labels.specs.ListOperations.{edges_of_update, edges_of_updates}
+use Rattle.ra_labels.specs.FreeList.{ListState, empty_list, list_step, list_state_from, list_state_after}
 use Rattle.ra_list_model.specs.Ordered.{list_step_at, list_state_at_from, list_state_at}
 use Rattle.ra_list_model.specs.Kept.{updates_in}
 use Rattle.ra_list_model.proofs.AnsweredQueries.{no_edges}

@@ -1,8 +1,8 @@
 -- The updates that a replica has, among all.
 use Rattle.std.specs.Prelude.{◌≡◌, ◌⊎◌, ℕ, Bool, true, List, map, filter, Contains}
-use Rattle.ra_list_edges.specs.declared.insertion.Insertion.{Insertion}
-use Rattle.ra_list_model.specs.declared.operation.ListUpdate.{ListUpdate}
-use Rattle.ra_list_model.specs.declared.operation.ListUpdate.TheVariants.{Put, Hide}
+use Rattle.ra_labels.specs.declared.insertion.Insertion.{Insertion}
+use Rattle.ra_labels.specs.declared.list_operation.ListUpdate.{ListUpdate}
+use Rattle.ra_labels.specs.declared.list_operation.ListUpdate.TheVariants.{Put, Hide}
 
 -- the updates of numbered ones
 abbrev pub updates_in : List (ℕ × ListUpdate) → List ListUpdate

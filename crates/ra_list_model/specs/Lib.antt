@@ -1,5 +1,3 @@
-pub mod Operations
-pub mod Free
 pub mod Order
 pub mod Ordered
 pub mod Kept

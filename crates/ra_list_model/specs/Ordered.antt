@@ -1,14 +1,14 @@
 -- The specification of a list for one order of all its elements: as the free one, and the order is right.
 use Rattle.std.specs.Prelude.{ℕ, ◌==◌, nat_eq, Bool, ◌&&◌, ◌||◌, List, Option, Some, None, fold, option_and_then, Contains, if◌then◌else◌}
 use Rattle.std.specs.Cmp.Lexicographic.{pointwise}
-use Rattle.ra_list_order.specs.Edges.{EachOnce}
-use Rattle.ra_list_order.specs.Reads.{in_order}
-use Rattle.ra_list_edges.specs.declared.insertion.Insertion.{Insertion}
-use Rattle.ra_list_model.specs.declared.operation.ListUpdate.{ListUpdate}
-use Rattle.ra_list_model.specs.declared.operation.ListUpdate.TheVariants.{Put, Hide}
-use Rattle.ra_list_model.specs.declared.operation.ListQuery.{ListQuery}
-use Rattle.ra_list_model.specs.declared.operation.ListQuery.TheVariants.{Near, Has, Read, Part}
-use Rattle.ra_list_model.specs.Free.{ListState, empty_list, shown_in, list_step, list_answers}
+use Rattle.ra_labels.specs.Edges.{EachOnce}
+use Rattle.ra_labels.specs.Reads.{in_order}
+use Rattle.ra_labels.specs.declared.insertion.Insertion.{Insertion}
+use Rattle.ra_labels.specs.declared.list_operation.ListUpdate.{ListUpdate}
+use Rattle.ra_labels.specs.declared.list_operation.ListUpdate.TheVariants.{Put, Hide}
+use Rattle.ra_labels.specs.declared.list_operation.ListQuery.{ListQuery}
+use Rattle.ra_labels.specs.declared.list_operation.ListQuery.TheVariants.{Near, Has, Read, Part}
+use Rattle.ra_labels.specs.FreeList.{ListState, empty_list, shown_in, list_step, list_answers}
 use Rattle.ra_list_model.specs.Order.{is_before}
 
 -- `true` if the element is behind its left neighbour and before its right one, where they are named

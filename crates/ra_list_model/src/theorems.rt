@@ -1,15 +1,16 @@
 //! The theorems about the two specifications of a list, each the clause of a function with an empty body.
-ghost use Rattle.std.specs.Prelude.{◌≡◌, ◌↔◌, ℕ, Bool, true, List, Option, Some, Contains};
+ghost use Rattle.std.specs.Prelude.{◌≡◌, ◌↔◌, ℕ, Bool, true, List, ◌∷◌, ◌++◌, Option, Some, Contains};
+ghost use Rattle.std.specs.List.Sorted.{IsPermutation};
 ghost use Rattle.ra_labels.specs.Lists.{is_among};
-ghost use Rattle.ra_list_order.specs.Edges.{Extends};
-ghost use Rattle.ra_list_model.specs.declared.operation.ListUpdate.{ListUpdate};
-ghost use Rattle.ra_list_model.specs.declared.operation.ListUpdate.TheVariants.{Hide};
-ghost use Rattle.ra_list_model.specs.declared.operation.ListQuery.{ListQuery};
-ghost use Rattle.ra_list_model.specs.declared.operation.ListQuery.TheVariants.{Read};
-ghost use Rattle.ra_list_model.specs.Operations.{edges_of_update, edges_of_query, edges_of_updates};
-ghost use Rattle.ra_list_model.specs.Free.{ListState, list_step, list_answers, list_state_after};
+ghost use Rattle.ra_labels.specs.Edges.{Extends};
+ghost use Rattle.ra_labels.specs.declared.list_operation.ListUpdate.{ListUpdate};
+ghost use Rattle.ra_labels.specs.declared.list_operation.ListUpdate.TheVariants.{Hide};
+ghost use Rattle.ra_labels.specs.declared.list_operation.ListQuery.{ListQuery};
+ghost use Rattle.ra_labels.specs.declared.list_operation.ListQuery.TheVariants.{Read};
+ghost use Rattle.ra_labels.specs.ListOperations.{edges_of_update, edges_of_query, edges_of_updates};
+ghost use Rattle.ra_labels.specs.FreeList.{ListState, list_step, list_answers, list_state_after};
 ghost use Rattle.ra_list_model.specs.Ordered.{list_step_at, list_state_at, list_answers_at, IsOrderFor};
-ghost use Rattle.ra_list_model.specs.Kept.{Puts, KeepsWhatIsNeeded, kept_by, updates_in};
+ghost use Rattle.ra_list_model.specs.Kept.{Puts, Needs, KeepsWhatIsNeeded, kept_by, updates_in};
 
 /// Theorem: the specification for an order admits an update exactly if the free one does and the order extends the
 /// update's edges. Both lead to the same state.
@@ -56,4 +57,29 @@ pub fn kept_updates_are_admitted()
     ensures { (numbered : List (ℕ × ListUpdate)) (keep : ℕ → Bool) (state : ListState)
         → list_state_after (updates_in numbered) ≡ Some state → KeepsWhatIsNeeded keep numbered
         → (kept : ListState) × (list_state_after (updates_in (kept_by keep numbered)) ≡ Some kept) }
+{}
+
+/// Theorem: admitted updates that are the same ones, in any order, lead to the same state.
+pub fn same_updates_same_state()
+    ensures { (updates others : List ListUpdate) (state other : ListState) → list_state_after updates ≡ Some state
+        → list_state_after others ≡ Some other → ((u : ListUpdate) → Contains updates u ↔ Contains others u)
+        → state ≡ other }
+{}
+
+/// Theorem: a late update has the effect of the last one: the updates with it lead to the state to which it leads after
+/// all others.
+pub fn late_update_is_the_last()
+    ensures { (first later : List ListUpdate) (update : ListUpdate) (state kept : ListState)
+        → list_state_after (first ++ update ∷ later) ≡ Some state → list_state_after (first ++ later) ≡ Some kept
+        → list_step kept update ≡ Some state }
+{}
+
+/// Theorem: admitted updates are admitted in any other order in which each element that an update needs is inserted
+/// before it.
+pub fn admitted_in_another_order()
+    ensures { (updates others : List ListUpdate) (state : ListState) → list_state_after updates ≡ Some state
+        → IsPermutation updates others
+        → ((before behind : List ListUpdate) (update : ListUpdate) (x : ℕ) → others ≡ before ++ update ∷ behind
+        → Needs update x → Puts x before)
+        → (other : ListState) × (list_state_after others ≡ Some other) }
 {}

@@ -8,8 +8,8 @@ use Rattle.std.proofs.lemmas.List.{drop-drop}
 use Rattle.std.proofs.lemmas.List.Edits.{length-between, split_between}
 use Rattle.std.proofs.lemmas.List.Elements.{All-contains, Contains-append_left, Contains-append_cases, Contains-push, Contains-push_cases}
 use Rattle.std.proofs.lemmas.List.Sorted.{IsPermutation-append_left, IsPermutation-append_right, Contains-permutation, length_permutation, sum_by-IsPermutation}
-use Rattle.ra_list_order.specs.declared.edge.Edge.{Edge}
-use Rattle.ra_list_order.specs.Edges.{EachOnce, IsBefore, Extends, IsChain, IsCycle}
+use Rattle.ra_labels.specs.declared.edge.Edge.{Edge}
+use Rattle.ra_labels.specs.Edges.{EachOnce, IsBefore, Extends, IsChain, IsCycle}
 use Rattle.ra_list_order.specs.ListOrder.{ListOrderKept}
 use Rattle.ra_list_order.specs.Chunks.{Chunk, joined, IsSpan, IsPartWith}
 use Rattle.ra_list_order.specs.Marks.{is_marked}

@@ -2,7 +2,7 @@
 use Rattle.std.proofs.Common.{◌≡◌, ℕ, zero, suc, ◌<◌, length, get_or, List, [], ◌∷◌, ◌++◌, subst, inl, inr, arith}
 use Rattle.std.specs.Prelude.{Contains}
 use Rattle.std.proofs.lemmas.List.Elements.{Contains-get_or, Contains-append_left, Contains-append_right, Contains-append_cases}
-use Rattle.ra_list_order.specs.Edges.{IsBefore}
+use Rattle.ra_labels.specs.Edges.{IsBefore}
 use Rattle.ra_list_order.proofs.Members.{head_or_behind, at_head, behind_head, none_there}
 
 pub first_there : (xs : List ℕ) (a b : ℕ) → IsBefore xs a b → Contains xs a

@@ -11,7 +11,7 @@ use Rattle.std.proofs.lemmas.Bool.{cases_Bool, cases_lt, cases_eq}
 use Rattle.std.proofs.lemmas.List.{length_push, length-take, get_or-take, append-nil}
 use Rattle.std.proofs.lemmas.List.Elements.{Contains-get_or, Contains-append_left, Contains-push, Contains-push_cases}
 use Rattle.std.proofs.lemmas.Map.Lookups.{exact_unsigned}
-use Rattle.ra_list_order.specs.declared.edge.Edge.{Edge}
+use Rattle.ra_labels.specs.declared.edge.Edge.{Edge}
 use Rattle.ra_list_order.specs.EdgePool.{no_edge, edge_at, IsLastFrom, EdgesLinked}
 use Rattle.ra_list_order.specs.Sweep.{PushesEdgesFrom}
 use Rattle.ra_list_order.proofs.Members.{same_read}

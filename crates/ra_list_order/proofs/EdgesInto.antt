@@ -6,7 +6,7 @@ use Rattle.std.specs.Ordering.{nat_cmp}
 use Rattle.std.proofs.lemmas.Bool.{cases_eq}
 use Rattle.std.proofs.lemmas.List.{length-map, map-append, map_push, take-map, get_or-map}
 use Rattle.ra_labels.proofs.Members.{reached}
-use Rattle.ra_list_order.specs.declared.edge.Edge.{Edge}
+use Rattle.ra_labels.specs.declared.edge.Edge.{Edge}
 use Rattle.ra_list_order.specs.EdgePool.{no_edge, edge_at, flipped, IsLastFrom, EdgesLinked}
 use Rattle.ra_list_order.specs.Sweep.{PushesEdgesInto}
 use Rattle.ra_list_order.proofs.EdgePools.{IsPointed, IsWalking, pointed, pool_push, pool_popped, replaced, walking_more, walking_done, walking_within}

@@ -3,8 +3,8 @@ use Rattle.std.proofs.Common.{◌≡◌, ℕ, ◌+◌, ◌<◌, List, [], ◌∷
 use Rattle.std.specs.Prelude.{Contains}
 use Rattle.std.proofs.lemmas.List.{take_more}
 use Rattle.std.proofs.lemmas.List.Elements.{Contains-append_left, Contains-append_right, Contains-append_cases, Contains-push_cases}
-use Rattle.ra_list_order.specs.declared.edge.Edge.{Edge}
-use Rattle.ra_list_order.specs.Edges.{EachOnce, IsBefore, Extends}
+use Rattle.ra_labels.specs.declared.edge.Edge.{Edge}
+use Rattle.ra_labels.specs.Edges.{EachOnce, IsBefore, Extends}
 use Rattle.ra_list_order.specs.Gathering.{others, gathered, CanBeGathered, HasEdgesAt}
 use Rattle.ra_list_order.specs.Sweep.{PushesEdgesFrom, PushesEdgesInto}
 use Rattle.ra_list_order.proofs.Befores.{Left, Right, Across, first_there, second_there, before_left, before_right, before_across, before_cases}

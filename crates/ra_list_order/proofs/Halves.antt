@@ -7,7 +7,7 @@ use Rattle.std.proofs.lemmas.List.{length-set, length_push, get_or-set_same, get
 use Rattle.std.proofs.lemmas.List.Elements.{Contains-append_left, Contains-append_right}
 use Rattle.std.proofs.lemmas.List.Edits.{get_or-insert_below, get_or-insert_at, get_or-insert_above}
 use Rattle.ra_labels.proofs.Halves.{halved, halved_is, length_halved}
-use Rattle.ra_list_order.specs.Edges.{EachOnce}
+use Rattle.ra_labels.specs.Edges.{EachOnce}
 use Rattle.ra_list_order.specs.Chunks.{Chunk, no_chunk, chunk_at, joined, AreGrouped, AreMovedTo, IsRaised}
 use Rattle.ra_list_order.proofs.Insertions.{mid_joined, mid_grouped}
 use Rattle.ra_list_order.proofs.Members.{read_at, same_read}

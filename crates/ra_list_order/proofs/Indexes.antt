@@ -5,7 +5,7 @@ use Rattle.std.proofs.lemmas.Bool.{false≢true, cases_eq, cond-true, cond-false
 use Rattle.std.proofs.lemmas.List.{append-nil, length-take-le, get_or-take, take_more}
 use Rattle.std.proofs.lemmas.List.Elements.{Contains-get_or, Contains-append_left, Contains-push_cases, filter_more}
 use Rattle.std.proofs.lemmas.List.Sorted.{IsPermutation-sym, IsPermutation-to_front}
-use Rattle.ra_list_order.specs.Edges.{EachOnce, IsBefore}
+use Rattle.ra_labels.specs.Edges.{EachOnce, IsBefore}
 use Rattle.ra_list_order.specs.Gathering.{others, gathered, IsIndex}
 use Rattle.ra_list_order.proofs.Adds.{once_moved}
 use Rattle.ra_list_order.proofs.Befores.{before_left, before_right, before_across, before_by_places}

@@ -9,7 +9,7 @@ use Rattle.std.proofs.lemmas.Bool.{cases_eq}
 use Rattle.std.proofs.lemmas.List.{length-set, get_or-set_same, get_or-set_other, take-set, drop-set-lt}
 use Rattle.std.proofs.lemmas.List.Edits.{insert-append_left, insert-append_right}
 use Rattle.std.proofs.lemmas.List.Sorted.{IsPermutation-insert, IsPermutation-sym, Contains-permutation}
-use Rattle.ra_list_order.specs.Edges.{EachOnce}
+use Rattle.ra_labels.specs.Edges.{EachOnce}
 use Rattle.ra_list_order.specs.ListOrder.{IsPut}
 use Rattle.ra_list_order.specs.Chunks.{Chunk, no_chunk, chunk_at, joined, AreGrouped, IsInsertedAt}
 use Rattle.ra_list_order.proofs.EdgePools.{IsPointed, pointed}

@@ -9,7 +9,7 @@ use Rattle.std.proofs.lemmas.List.Edits.{split_between}
 use Rattle.std.proofs.lemmas.List.Elements.{Contains-get_or}
 use Rattle.std.proofs.lemmas.List.Sums.{sum_by-append}
 use Rattle.ra_labels.proofs.Members.{piece_of, in_piece}
-use Rattle.ra_list_order.specs.Edges.{EachOnce}
+use Rattle.ra_labels.specs.Edges.{EachOnce}
 use Rattle.ra_list_order.specs.Chunks.{Chunk, no_chunk, chunk_at, joined}
 use Rattle.ra_list_order.proofs.Members.{head_or_behind, at_head, behind_head, none_there, same_read}
 use Rattle.ra_list_order.proofs.Cycles.{counted}

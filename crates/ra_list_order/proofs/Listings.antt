@@ -4,9 +4,9 @@ use Rattle.std.specs.Prelude.{◌⊎◌, ◌==◌, ◌&&◌, not, find, Contains
 use Rattle.std.specs.List.{list_any}
 use Rattle.std.specs.Option.{option_map, option_and_then}
 use Rattle.std.proofs.lemmas.Bool.{false≢true, cases_Bool, cond-true, cond-false, or_cases, and_parts, eq-eqb, eqb-true}
-use Rattle.ra_list_order.specs.declared.edge.Edge.{Edge}
-use Rattle.ra_list_order.specs.Edges.{EachOnce, IsBefore, Extends, IsChain, IsCycle}
-use Rattle.ra_list_order.specs.Listing.{is_free, without, listed, list_order_of}
+use Rattle.ra_labels.specs.declared.edge.Edge.{Edge}
+use Rattle.ra_labels.specs.Edges.{EachOnce, IsBefore, Extends, IsChain, IsCycle}
+use Rattle.ra_labels.specs.Listing.{is_free, without, listed, list_order_of}
 use Rattle.ra_list_order.proofs.Members.{head_or_behind, at_head, behind_head, none_there, kept-there, there-kept, any_there}
 use Rattle.ra_list_order.proofs.Befores.{second_there}
 use Rattle.ra_list_order.proofs.Cycles.{AreNew, new_from_once}

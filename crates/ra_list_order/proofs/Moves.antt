@@ -8,7 +8,7 @@ use Rattle.std.proofs.lemmas.Bool.{false≢true, cases_eq}
 use Rattle.std.proofs.lemmas.List.{append-nil, length-append, length-set, length-take-le, get_or-set_same, get_or-set_other, get_or-take, get_or-drop, take-take, take_more, take-append-drop, drop-set-lt, drop-drop, take-set}
 use Rattle.std.proofs.lemmas.Slice.{between_is}
 use Rattle.std.proofs.lemmas.List.Elements.{Contains-append_left, Contains-append_right, Contains-push, Contains-push_cases}
-use Rattle.ra_list_order.specs.Edges.{EachOnce}
+use Rattle.ra_labels.specs.Edges.{EachOnce}
 use Rattle.ra_list_order.specs.Chunks.{Chunk, no_chunk, chunk_at, joined, HaveSameGroups, AreMovedTo, AreMovedToChunks}
 use Rattle.ra_list_order.proofs.EdgePools.{IsPointed, pointed}
 use Rattle.ra_list_order.proofs.Members.{same_read}

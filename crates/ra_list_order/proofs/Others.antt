@@ -7,9 +7,9 @@ use Rattle.std.proofs.lemmas.Bool.{false≢true, cases_Bool, cond-true, cond-fal
 use Rattle.std.proofs.lemmas.List.Elements.{filter-append}
 use Rattle.std.proofs.lemmas.List.Folds.{list_any_more}
 use Rattle.std.proofs.lemmas.List.Sorted.{IsPermutation-refl, IsPermutation-cons, IsPermutation-trans, IsPermutation-append_comm, IsPermutation-append_left, IsPermutation-filter_both}
-use Rattle.ra_list_order.specs.Edges.{EachOnce, IsBefore}
+use Rattle.ra_labels.specs.Edges.{EachOnce, IsBefore}
 use Rattle.ra_list_order.specs.Gathering.{others, gathered}
-use Rattle.ra_list_order.specs.Listing.{without}
+use Rattle.ra_labels.specs.Listing.{without}
 use Rattle.ra_list_order.proofs.Adds.{once_moved}
 use Rattle.ra_list_order.proofs.JoinedChunks.{once_right, once_apart}
 use Rattle.ra_list_order.proofs.Members.{head_or_behind, at_head, behind_head, none_there, kept-there, there-kept, any_there}

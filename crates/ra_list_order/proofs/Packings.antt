@@ -5,7 +5,7 @@ use Rattle.std.specs.List.{between}
 use Rattle.std.proofs.lemmas.Bool.{cases_lt}
 use Rattle.std.proofs.lemmas.List.{append-nil, length_push, get_or_push, get_or_append_left, take-take, take-append-drop}
 use Rattle.std.proofs.lemmas.Slice.{between_is}
-use Rattle.ra_list_order.specs.Edges.{EachOnce}
+use Rattle.ra_labels.specs.Edges.{EachOnce}
 use Rattle.ra_list_order.specs.Chunks.{Chunk, no_chunk, joined, AreGrouped, AreMovedToChunks}
 use Rattle.ra_list_order.specs.Gathering.{ArePacked}
 use Rattle.ra_list_order.proofs.JoinedChunks.{joined_append, side}

@@ -6,8 +6,8 @@ use Rattle.std.proofs.lemmas.Bool.{cases_Bool, cond-true, cond-false, eqb-true}
 use Rattle.std.proofs.lemmas.List.{take_more, drop_more, take-append-drop, take_at, drop_at}
 use Rattle.std.proofs.lemmas.List.Sums.{sum_by-cons}
 use Rattle.std.proofs.lemmas.List.Sorted.{IsPermutation-insert, sum_by-IsPermutation}
-use Rattle.ra_list_order.specs.declared.edge.Edge.{Edge}
-use Rattle.ra_list_order.specs.Edges.{EachOnce, IsBefore, Extends}
+use Rattle.ra_labels.specs.declared.edge.Edge.{Edge}
+use Rattle.ra_labels.specs.Edges.{EachOnce, IsBefore, Extends}
 use Rattle.ra_list_order.specs.ListOrder.{ListOrderKept, IsPut}
 use Rattle.ra_list_order.proofs.Members.{at_head, behind_head}
 use Rattle.ra_list_order.proofs.Befores.{before_wider}

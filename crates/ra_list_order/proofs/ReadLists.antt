@@ -3,9 +3,9 @@ use Rattle.std.proofs.Common.{◌≡◌, ◌↔◌, ℕ, Bool, true, false, List
 use Rattle.std.specs.Prelude.{◌==◌, ◌||◌, Contains}
 use Rattle.std.specs.List.{list_any}
 use Rattle.std.proofs.lemmas.Bool.{false≢true, cases_Bool, cases_eq, cond-true, cond-false, eq-eqb, eqb-true, ne_eqb, or_left, or_right}
-use Rattle.ra_list_order.specs.declared.edge.Edge.{Edge}
-use Rattle.ra_list_order.specs.Edges.{EachOnce, IsBefore, Extends}
-use Rattle.ra_list_order.specs.Reads.{edges_of_read, in_order}
+use Rattle.ra_labels.specs.declared.edge.Edge.{Edge}
+use Rattle.ra_labels.specs.Edges.{EachOnce, IsBefore, Extends}
+use Rattle.ra_labels.specs.Reads.{edges_of_read, in_order}
 use Rattle.ra_list_order.proofs.Members.{head_or_behind, at_head, behind_head, none_there, there-kept, any_there}
 use Rattle.ra_list_order.proofs.Befores.{second_there}
 use Rattle.ra_list_order.proofs.Cycles.{AreNew, transitive, new_from_once}

@@ -3,10 +3,10 @@ use Rattle.std.proofs.Common.{◌≡◌, ◌<◌, ◌∙◌, ℕ, List, [], ◌�
 use Rattle.std.specs.Prelude.{Contains, IfSome}
 use Rattle.std.specs.List.Sorted.{IsPermutation}
 use Rattle.std.proofs.lemmas.List.Elements.{Contains-append_left, Contains-append_right, Contains-append_cases}
-use Rattle.ra_list_order.specs.declared.edge.Edge.{Edge}
+use Rattle.ra_labels.specs.declared.edge.Edge.{Edge}
 use Rattle.ra_list_order.specs.declared.search.Plan.{Plan}
 use Rattle.ra_list_order.specs.Chunks.{Chunk, joined}
-use Rattle.ra_list_order.specs.Edges.{EachOnce, Extends}
+use Rattle.ra_labels.specs.Edges.{EachOnce, Extends}
 use Rattle.ra_list_order.specs.Gathering.{gathered}
 use Rattle.ra_list_order.specs.ListOrder.{ListOrderKept}
 use Rattle.ra_list_order.specs.Plans.{moved_by, left_by, right_by, order_by, CanBeDone}

@@ -10,7 +10,7 @@ use Rattle.std.proofs.lemmas.Slice.{between-put_mid}
 use Rattle.std.proofs.lemmas.List.Edits.{length-between, get_or-between}
 use Rattle.std.proofs.lemmas.List.Elements.{Contains-get_or, Contains-append_left, Contains-append_right}
 use Rattle.std.proofs.lemmas.List.Sorted.{IsPermutation-sym, IsPermutation-append_left, IsPermutation-append_right, Contains-permutation}
-use Rattle.ra_list_order.specs.Edges.{EachOnce, IsBefore}
+use Rattle.ra_labels.specs.Edges.{EachOnce, IsBefore}
 use Rattle.ra_list_order.specs.Chunks.{Chunk, no_chunk, chunk_at, joined, AreGrouped, HaveSameGroups, AreMovedToChunks, IsSpan, IsPartWith}
 use Rattle.ra_list_order.proofs.Adds.{once_moved}
 use Rattle.ra_list_order.proofs.Befores.{before_left, before_right, before_across}

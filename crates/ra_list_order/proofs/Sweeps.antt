@@ -6,8 +6,8 @@ use Rattle.std.proofs.lemmas.Bool.{false≢true, eqb-true, eq-eqb}
 use Rattle.std.proofs.lemmas.List.Elements.{Contains-append_left, Contains-append_right, Contains-append_cases, Contains-push_cases}
 use Rattle.std.proofs.lemmas.List.{take_more}
 use Rattle.std.proofs.lemmas.List.Sorted.{IsPermutation-refl, IsPermutation-sym, IsPermutation-append_left, IsPermutation-push_more, IsPermutation-middle, Contains-permutation}
-use Rattle.ra_list_order.specs.declared.edge.Edge.{Edge}
-use Rattle.ra_list_order.specs.Edges.{IsBefore}
+use Rattle.ra_labels.specs.declared.edge.Edge.{Edge}
+use Rattle.ra_labels.specs.Edges.{IsBefore}
 use Rattle.ra_list_order.specs.Marks.{is_marked}
 use Rattle.ra_list_order.specs.Sweep.{AreEdgesFrom, IsSwept}
 use Rattle.ra_list_order.proofs.Members.{head_or_behind, none_there, kept-there, there-kept}

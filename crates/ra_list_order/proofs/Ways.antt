@@ -9,8 +9,8 @@ use Rattle.std.proofs.lemmas.List.{take-append-le, append-nil, length_push, reve
 use Rattle.std.proofs.lemmas.List.Elements.{All-same, All-cons}
 use Rattle.std.proofs.lemmas.Bool.{false≢true, or_cases, or_left, or_right, eq-eqb, eqb-true, cases_lt}
 use Rattle.std.proofs.lemmas.List.Folds.{list_any-append, list_any_more}
-use Rattle.ra_list_order.specs.declared.edge.Edge.{Edge}
-use Rattle.ra_list_order.specs.Edges.{IsChain}
+use Rattle.ra_labels.specs.declared.edge.Edge.{Edge}
+use Rattle.ra_labels.specs.Edges.{IsChain}
 use Rattle.ra_list_order.specs.Marks.{is_marked, AreWalked}
 use Rattle.ra_list_order.proofs.Members.{any_there, at_head, behind_head}
 

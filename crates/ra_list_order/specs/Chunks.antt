@@ -1,7 +1,7 @@
 -- Chunks: a sequence as the concatenation of short lists, and the group of each element.
 use Rattle.std.specs.Prelude.{◌≡◌, ℕ, ◌<◌, ◌≤◌, ◌++◌, ◌+◌, ◌^◌, List, [], length, get_or, take, drop, Option, Some, Contains}
 use Rattle.std.specs.List.{flat_map, between, insert}
-use Rattle.ra_list_order.specs.Edges.{EachOnce}
+use Rattle.ra_labels.specs.Edges.{EachOnce}
 
 -- a chunk, as contracts describe it
 pub record Chunk : Type 0 where

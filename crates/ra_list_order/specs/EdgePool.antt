@@ -2,7 +2,7 @@
 use Rattle.std.specs.Prelude.{◌≡◌, ℕ, ◌-◌, ◌<◌, ◌≤◌, ◌==◌, ◌&&◌, Bool, List, length, map, get_or, count_by, Option, unwrap_or}
 use Rattle.std.specs.Ordering.{nat_cmp, ordering_then}
 use Rattle.std.specs.declared.cmp.Ordering.{Ordering}
-use Rattle.ra_list_order.specs.declared.edge.Edge.{Edge}
+use Rattle.ra_labels.specs.declared.edge.Edge.{Edge}
 
 abbrev pub no_edge : Edge
 no_edge = record { before = 0; after = 0; label = 0 }

@@ -1,9 +1,9 @@
 -- Elements that are moved to a cut of the order, and the edges that then lead forwards.
 use Rattle.std.specs.Prelude.{◌≡◌, ℕ, ◌<◌, ◌+◌, ◌==◌, ◌++◌, not, List, length, get_or, filter, take, drop, Option, Some, None, Contains}
 use Rattle.std.specs.List.{list_any}
-use Rattle.ra_list_order.specs.declared.edge.Edge.{Edge}
+use Rattle.ra_labels.specs.declared.edge.Edge.{Edge}
 use Rattle.ra_list_order.specs.Chunks.{Chunk, chunk_at, joined, HaveSameGroups}
-use Rattle.ra_list_order.specs.Edges.{IsBefore}
+use Rattle.ra_labels.specs.Edges.{IsBefore}
 
 -- the elements that are not among the moved ones
 abbrev pub others : List ℕ → List ℕ → List ℕ

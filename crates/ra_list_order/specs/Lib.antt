@@ -1,10 +1,7 @@
 pub mod Chunks
 pub mod EdgePool
-pub mod Edges
 pub mod Gathering
 pub mod ListOrder
-pub mod Listing
 pub mod Marks
 pub mod Plans
-pub mod Reads
 pub mod Sweep

@@ -1,7 +1,7 @@
 -- A list order, as contracts describe it, and the terms of its clauses.
 use Rattle.std.specs.Prelude.{◌≡◌, ℕ, ◌++◌, List, ◌∷◌, Option, Some, None}
-use Rattle.ra_list_order.specs.declared.edge.Edge.{Edge}
-use Rattle.ra_list_order.specs.Edges.{EachOnce, Extends}
+use Rattle.ra_labels.specs.declared.edge.Edge.{Edge}
+use Rattle.ra_labels.specs.Edges.{EachOnce, Extends}
 
 pub record ListOrder : Type 0 where
   -- the elements in order

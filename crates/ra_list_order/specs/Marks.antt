@@ -1,7 +1,7 @@
 -- What is reachable along walked edges.
 use Rattle.std.specs.Prelude.{◌≡◌, ℕ, ◌<◌, ◌==◌, ◌||◌, Bool, true, List, length, get_or, take}
 use Rattle.std.specs.List.{list_any}
-use Rattle.ra_list_order.specs.declared.edge.Edge.{Edge}
+use Rattle.ra_labels.specs.declared.edge.Edge.{Edge}
 
 -- `true` if the element is the start or the end of a walked edge
 abbrev pub is_marked : ℕ → List Edge → ℕ → Bool

@@ -1,6 +1,6 @@
 -- A plan: the order that results from it.
 use Rattle.std.specs.Prelude.{ℕ, List, ◌++◌}
-use Rattle.ra_list_order.specs.declared.edge.Edge.{Edge}
+use Rattle.ra_labels.specs.declared.edge.Edge.{Edge}
 use Rattle.ra_list_order.specs.declared.search.Plan.{Plan}
 use Rattle.ra_list_order.specs.Chunks.{Chunk}
 use Rattle.ra_list_order.specs.Gathering.{gathered, left_of, right_of, CanBeGathered}

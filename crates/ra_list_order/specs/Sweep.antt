@@ -1,8 +1,8 @@
 -- What one walk along a part of the order finds.
 use Rattle.std.specs.Prelude.{◌≡◌, ℕ, true, List, ◌++◌, Contains}
 use Rattle.std.specs.List.Sorted.{IsPermutation}
-use Rattle.ra_list_order.specs.declared.edge.Edge.{Edge}
-use Rattle.ra_list_order.specs.Edges.{IsBefore}
+use Rattle.ra_labels.specs.declared.edge.Edge.{Edge}
+use Rattle.ra_labels.specs.Edges.{IsBefore}
 use Rattle.ra_list_order.specs.Marks.{is_marked, AreWalked}
 
 -- holds if the second list has exactly the edges from x, in any order

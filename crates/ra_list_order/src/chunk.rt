@@ -2,7 +2,7 @@
 ghost use Rattle.std.specs.Prelude.{◌≡◌, ◌<◌, ◌≤◌, ◌++◌, nat_le, [], length, IfOk, OnOk, OnErr};
 ghost use Rattle.std.specs.List.{insert};
 ghost use Rattle.ra_list_order.specs.Chunks.{most_in_chunk};
-ghost use Rattle.ra_list_order.specs.Listing.{without};
+ghost use Rattle.ra_labels.specs.Listing.{without};
 
 use ra_labels::NoMemory;
 use std::alloc::Global;

@@ -1,6 +1,6 @@
 //! A cut of a sequence in two, and the elements that are moved there.
 ghost use Rattle.std.specs.Prelude.{◌≡◌, ◌≤◌, ◌++◌, not, length, take, drop, filter, is_some, IfOk, IfSome, OnOk};
-ghost use Rattle.ra_list_order.specs.Edges.{EachOnce};
+ghost use Rattle.ra_labels.specs.Edges.{EachOnce};
 ghost use Rattle.ra_list_order.specs.Gathering.{gathered, IsIndex};
 ghost use Rattle.std.specs.BTreeMap.{get};
 ghost use Rattle.std.specs.Ordering.{nat_cmp};

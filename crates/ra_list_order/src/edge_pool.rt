@@ -1,14 +1,13 @@
 //! The edges in the order in which they were added, linked by the element where they begin, and counted by their ends.
 ghost use Rattle.std.specs.Prelude.{◌≡◌, ◌-◌, ◌++◌, ◌∷◌, [], length, take, IsTrue, ◌↔◌, OnOk, OnErr, unwrap_or};
 ghost use Rattle.std.specs.BTreeMap.{get};
-ghost use Rattle.ra_list_order.specs.declared.edge.Edge.{Edge};
+ghost use Rattle.ra_labels.specs.declared.edge.Edge.{Edge};
 ghost use Rattle.std.specs.Ordering.{nat_cmp};
 ghost use Rattle.ra_list_order.specs.EdgePool.{pair_cmp};
-ghost use Rattle.ra_list_order.specs.Edges.{HasEdge};
+ghost use Rattle.ra_labels.specs.Edges.{HasEdge};
 ghost use Rattle.ra_list_order.specs.Sweep.{PushesEdgesFrom, PushesEdgesInto};
 
-use crate::edge::Edge;
-use ra_labels::NoMemory;
+use ra_labels::{Edge, NoMemory};
 use std::alloc::Global;
 use std::collections::BTreeMap;
 use std::marker::Model;
@@ -33,7 +32,7 @@ pub struct EdgePool {
 
 impl Model for EdgePool {
     ghost use Rattle.std.specs.Prelude.{List};
-    ghost use Rattle.ra_list_order.specs.declared.edge.Edge.{Edge};
+    ghost use Rattle.ra_labels.specs.declared.edge.Edge.{Edge};
     ghost use Rattle.std.specs.Ordering.{nat_cmp};
     ghost use Rattle.std.specs.BTreeMap.{get};
     ghost use Rattle.ra_list_order.specs.EdgePool.{pair_cmp, EdgePoolKept};

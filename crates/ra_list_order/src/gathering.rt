@@ -2,17 +2,16 @@
 ghost use Rattle.std.specs.Prelude.{◌≡◌, ℕ, ◌<◌, ◌++◌, length, slice_index, Contains, IsTrue, IfOk};
 ghost use Rattle.std.specs.BTreeMap.{get};
 ghost use Rattle.std.specs.Ordering.{nat_cmp};
-ghost use Rattle.ra_list_order.specs.declared.edge.Edge.{Edge};
-ghost use Rattle.ra_list_order.specs.Edges.{IsBefore};
+ghost use Rattle.ra_labels.specs.declared.edge.Edge.{Edge};
+ghost use Rattle.ra_labels.specs.Edges.{IsBefore};
 ghost use Rattle.ra_list_order.specs.Gathering.{left_of, right_of, IsIndex, HasEdgesAt};
 ghost use Rattle.ra_list_order.specs.Plans.{moved_by, order_by, CanBeDone};
 
 use crate::cut::Spot;
-use crate::edge::Edge;
 use crate::edge_pool::EdgePool;
 use crate::search::Plan;
 use crate::sequence::Sequence;
-use ra_labels::NoMemory;
+use ra_labels::{Edge, NoMemory};
 use std::alloc::Global;
 use std::collections::BTreeMap;
 

@@ -2,7 +2,7 @@
 ghost use Rattle.std.specs.Prelude.{ℕ, Contains, IsSome};
 ghost use Rattle.std.specs.BTreeMap.{get};
 ghost use Rattle.std.specs.Ordering.{nat_cmp};
-ghost use Rattle.ra_list_order.specs.Edges.{EachOnce};
+ghost use Rattle.ra_labels.specs.Edges.{EachOnce};
 ghost use Rattle.ra_list_order.specs.Chunks.{joined, AreMovedTo, AreMovedToChunks};
 
 use crate::chunk::Chunk;

@@ -9,7 +9,6 @@
 mod chunk;
 mod chunks;
 mod cut;
-mod edge;
 mod edge_pool;
 mod gathering;
 mod groups;
@@ -25,5 +24,4 @@ mod tests_of_costs;
 pub mod theorems;
 mod way;
 
-pub use edge::Edge;
 pub use list_order::ListOrder;

@@ -1,12 +1,11 @@
 //! The kept order and its edges.
 ghost use Rattle.std.specs.Prelude.{◌≡◌, ◌+◌, ◌<◌, ◌≤◌, ◌++◌, ◌∷◌, [], length, take, drop, vec_len, Contains, IfOk, OnOk, OnErr, IfSome, MatchBool, MatchOption, IsTrue, ◌↔◌};
 ghost use Rattle.std.specs.List.Sorted.{IsPermutation};
-ghost use Rattle.ra_list_order.specs.declared.edge.Edge.{Edge};
-ghost use Rattle.ra_list_order.specs.Edges.{EachOnce, Extends, HasEdge, IsCycle};
+ghost use Rattle.ra_labels.specs.declared.edge.Edge.{Edge};
+ghost use Rattle.ra_labels.specs.Edges.{EachOnce, Extends, HasEdge, IsCycle};
 ghost use Rattle.ra_list_order.specs.ListOrder.{IsPut};
 
 use crate::cut::index_of;
-use crate::edge::Edge;
 use crate::edge_pool::EdgePool;
 use crate::gathering::can_be_done;
 use crate::parts::{part_with, write_back};
@@ -14,7 +13,7 @@ use crate::search::{Plan, search};
 use crate::sequence::{Sequence, Span};
 use crate::sweep::sweep;
 use crate::way::{is_marked, way_to};
-use ra_labels::NoMemory;
+use ra_labels::{Edge, NoMemory};
 use std::alloc::Global;
 use std::marker::Model;
 

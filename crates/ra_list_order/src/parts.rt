@@ -1,6 +1,6 @@
 //! Parts of a list: where an element is, the part between two elements, and elements that are overwritten.
 ghost use Rattle.std.specs.Prelude.{◌≡◌, ◌+◌, ◌<◌, ◌≤◌, ◌++◌, length, take, drop, vec_len, Contains, IsTrue, slice_index};
-ghost use Rattle.ra_list_order.specs.Edges.{IsBefore};
+ghost use Rattle.ra_labels.specs.Edges.{IsBefore};
 ghost use Rattle.ra_list_order.specs.Chunks.{IsPartWith};
 
 /// Returns the index of the element, which is in the list.

@@ -1,10 +1,9 @@
 //! The two-way search: finds the elements that move for a new edge, and where they move to.
 
 use crate::cut::Spot;
-use crate::edge::Edge;
 use crate::edge_pool::EdgePool;
 use crate::sequence::Sequence;
-use ra_labels::NoMemory;
+use ra_labels::{Edge, NoMemory};
 use std::alloc::Global;
 use std::collections::BTreeMap;
 

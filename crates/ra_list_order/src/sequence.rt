@@ -4,7 +4,7 @@ ghost use Rattle.std.specs.Ordering.{nat_cmp};
 ghost use Rattle.std.specs.Prelude.{ℕ, IfSome, ◌≡◌, ◌<◌, ◌≤◌, ◌++◌, ◌∷◌, ◌↔◌, [], Some, None, length, take, drop, Contains, IsTrue, IfOk, OnOk, OnErr, MatchOption, slice_index};
 ghost use Rattle.std.specs.List.{between};
 ghost use Rattle.std.specs.List.Sorted.{IsPermutation};
-ghost use Rattle.ra_list_order.specs.Edges.{EachOnce, IsBefore};
+ghost use Rattle.ra_labels.specs.Edges.{EachOnce, IsBefore};
 ghost use Rattle.ra_list_order.specs.Gathering.{gathered, left_of, right_of, IsAt, IsIndex};
 ghost use Rattle.ra_list_order.specs.ListOrder.{IsPut};
 ghost use Rattle.ra_list_order.specs.Chunks.{chunk_at, joined, IsInsertedAt, IsSpan};

@@ -3,12 +3,11 @@ ghost use Rattle.std.specs.Prelude.{◌≡◌, ℕ, ◌==◌, ◌||◌, IfOk, On
 ghost use Rattle.std.specs.BTreeSet.{contains};
 ghost use Rattle.std.specs.List.{list_any};
 ghost use Rattle.std.specs.Ordering.{nat_cmp};
-ghost use Rattle.ra_list_order.specs.declared.edge.Edge.{Edge};
+ghost use Rattle.ra_labels.specs.declared.edge.Edge.{Edge};
 ghost use Rattle.ra_list_order.specs.Sweep.{IsSwept};
 
-use crate::edge::Edge;
 use crate::edge_pool::EdgePool;
-use ra_labels::NoMemory;
+use ra_labels::{Edge, NoMemory};
 use std::alloc::Global;
 use std::collections::BTreeSet;
 

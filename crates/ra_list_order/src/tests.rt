@@ -1,9 +1,9 @@
 //! Tests of what no clause states: calls succeed, and `add` returns a cycle exactly if the edge closes one.
 ghost use Rattle.std.specs.Prelude.{◌<◌};
 
+use crate::ListOrder;
 use crate::sequence::Sequence;
-use crate::{Edge, ListOrder};
-use ra_labels::NoMemory;
+use ra_labels::{Edge, NoMemory};
 use std::alloc::Global;
 use std::collections::{BTreeMap, BTreeSet};
 use std::process::Abort;

@@ -1,6 +1,6 @@
 //! Tests of costs, which no clause states: they count the edges that are walked and the elements that are moved.
-use crate::{Edge, ListOrder};
-use ra_labels::NoMemory;
+use crate::ListOrder;
+use ra_labels::{Edge, NoMemory};
 use std::alloc::Global;
 use std::process::Abort;
 use std::test::Fail;

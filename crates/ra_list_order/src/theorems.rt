@@ -1,9 +1,9 @@
 //! The theorems about orders and cycles, each the clause of a function with an empty body.
 ghost use Rattle.std.specs.Prelude.{◌≡◌, ◌↔◌, ℕ, List, Some, None, Contains};
-ghost use Rattle.ra_list_order.specs.declared.edge.Edge.{Edge};
-ghost use Rattle.ra_list_order.specs.Edges.{EachOnce, Extends, IsCycle};
-ghost use Rattle.ra_list_order.specs.Listing.{list_order_of};
-ghost use Rattle.ra_list_order.specs.Reads.{edges_of_read, in_order};
+ghost use Rattle.ra_labels.specs.declared.edge.Edge.{Edge};
+ghost use Rattle.ra_labels.specs.Edges.{EachOnce, Extends, IsCycle};
+ghost use Rattle.ra_labels.specs.Listing.{list_order_of};
+ghost use Rattle.ra_labels.specs.Reads.{edges_of_read, in_order};
 
 /// Theorem: no order that has each element once extends edges among which there is a cycle.
 pub fn no_order_extends_cycle()

@@ -1,12 +1,11 @@
 //! Marked elements, and the way back to the start along walked edges.
 ghost use Rattle.std.specs.Prelude.{◌≡◌, ◌==◌, true, IfOk, All, Contains};
 ghost use Rattle.std.specs.List.{list_any};
-ghost use Rattle.ra_list_order.specs.declared.edge.Edge.{Edge};
-ghost use Rattle.ra_list_order.specs.Edges.{IsChain};
+ghost use Rattle.ra_labels.specs.declared.edge.Edge.{Edge};
+ghost use Rattle.ra_labels.specs.Edges.{IsChain};
 ghost use Rattle.ra_list_order.specs.Marks.{is_marked, AreWalked};
 
-use crate::edge::Edge;
-use ra_labels::NoMemory;
+use ra_labels::{Edge, NoMemory};
 use std::alloc::Global;
 
 /// Returns `true` if the element is the start or the end of a walked edge.

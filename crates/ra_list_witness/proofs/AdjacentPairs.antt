@@ -5,9 +5,9 @@ use Rattle.std.proofs.lemmas.Bool.{cases_lt}
 use Rattle.std.proofs.lemmas.List.{length-take-le, length-drop, get_or-take, get_or-drop}
 use Rattle.std.proofs.lemmas.List.Elements.{Contains-append_left, Contains-append_right, Contains-append_cases}
 use Rattle.ra_labels.proofs.Members.{head_or_behind, none_there}
-use Rattle.ra_list_order.specs.declared.edge.Edge.{Edge}
-use Rattle.ra_list_order.specs.Edges.{HasEdge, IsCycle}
-use Rattle.ra_list_order.specs.Reads.{edges_of_read}
+use Rattle.ra_labels.specs.declared.edge.Edge.{Edge}
+use Rattle.ra_labels.specs.Edges.{HasEdge, IsCycle}
+use Rattle.ra_labels.specs.Reads.{edges_of_read}
 use Rattle.ra_list_edges.specs.Pairs.{AddsSome, AddsPairs, with_pairs}
 use Rattle.ra_list_edges.proofs.PairEdges.{edge_of, pair_among}
 use Rattle.ra_list_witness.specs.Adjacent.{HasPairs}

@@ -4,9 +4,9 @@ use Rattle.std.specs.Prelude.{Contains, unwrap_or}
 use Rattle.std.specs.List.{slice_get}
 use Rattle.std.proofs.lemmas.List.Elements.{Contains-append_left, Contains-append_right}
 use Rattle.std.proofs.lemmas.List.{take-append-drop, take-map, drop-map, length-map, length-take-le, length-drop, get_or-take, get_or-drop}
-use Rattle.ra_list_order.specs.declared.edge.Edge.{Edge}
-use Rattle.ra_list_order.specs.Edges.{HasEdge}
-use Rattle.ra_list_order.specs.Reads.{edges_of_read}
+use Rattle.ra_labels.specs.declared.edge.Edge.{Edge}
+use Rattle.ra_labels.specs.Edges.{HasEdge}
+use Rattle.ra_labels.specs.Reads.{edges_of_read}
 use Rattle.ra_labels.proofs.Members.{reached, from_where}
 use Rattle.ra_list_edges.specs.Pairs.{AddsPairs}
 use Rattle.ra_list_edges.proofs.PairEdges.{edge_of}

@@ -6,7 +6,7 @@ use Rattle.std.proofs.lemmas.Bool.{cases_eq, cases_lt, cases_order}
 use Rattle.std.proofs.lemmas.Option.{slice_get_within, slice_get-get_or, get_or_from_slice_get}
 use Rattle.std.proofs.lemmas.List.{length-set, length-append, length_push, length-replicate, get_or-replicate, get_or_past, get_or_push, get_or_append_left, get_or-set_same, get_or-set_other}
 use Rattle.std.proofs.lemmas.List.Elements.{Contains-get_or}
-use Rattle.ra_list_order.specs.declared.edge.Edge.{Edge}
+use Rattle.ra_labels.specs.declared.edge.Edge.{Edge}
 use Rattle.ra_list_replica.specs.declared.mark.Mark.TheVariants.{Missing}
 use Rattle.ra_list_replica.specs.Numbers.{AreNumbersOf}
 use Rattle.ra_list_replica.specs.View.{View, mark_at}

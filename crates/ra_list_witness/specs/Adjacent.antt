@@ -1,8 +1,8 @@
 -- The pairs of adjacent elements of a list, as edges of the kept order.
 use Rattle.std.specs.Prelude.{ℕ, List, Contains}
-use Rattle.ra_list_order.specs.declared.edge.Edge.{Edge}
-use Rattle.ra_list_order.specs.Edges.{HasEdge}
-use Rattle.ra_list_order.specs.Reads.{edges_of_read}
+use Rattle.ra_labels.specs.declared.edge.Edge.{Edge}
+use Rattle.ra_labels.specs.Edges.{HasEdge}
+use Rattle.ra_labels.specs.Reads.{edges_of_read}
 
 -- holds if each listed element has an edge to the next one
 abbrev pub HasPairs : List Edge → List ℕ → Type 0

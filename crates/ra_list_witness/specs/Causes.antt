@@ -3,8 +3,8 @@ use Rattle.std.specs.Prelude.{◌≡◌, ℕ, ◌⊎◌, List, Option, Some, Non
 use Rattle.std.specs.List.{slice_get}
 use Rattle.ra_labels.specs.declared.reply.Cause.{Cause}
 use Rattle.ra_labels.specs.declared.reply.Cause.TheVariants.{Order, Update, Query}
-use Rattle.ra_list_edges.specs.declared.insertion.Insertion.{Insertion}
-use Rattle.ra_list_edges.specs.Insertion.{IsKnown}
+use Rattle.ra_labels.specs.declared.insertion.Insertion.{Insertion}
+use Rattle.ra_labels.specs.Neighborhood.{IsKnown}
 use Rattle.ra_list_replica.specs.declared.mark.Mark.{Mark}
 use Rattle.ra_list_replica.specs.declared.mark.Mark.TheVariants.{Missing}
 use Rattle.ra_list_replica.specs.View.{mark_at}

@@ -1,7 +1,7 @@
 -- A list's witness, as contracts describe it.
 use Rattle.std.specs.Prelude.{◌≡◌, ℕ, ◌≤◌, ◌==◌, ◌&&◌, List, [], length, get_or, Some, Contains, if◌then◌else◌}
 use Rattle.std.specs.List.{slice_get}
-use Rattle.ra_list_order.specs.declared.edge.Edge.{Edge}
+use Rattle.ra_labels.specs.declared.edge.Edge.{Edge}
 use Rattle.ra_list_replica.specs.declared.mark.Mark.{Mark}
 use Rattle.ra_list_replica.specs.declared.mark.Mark.TheVariants.{Missing}
 use Rattle.ra_list_replica.specs.Numbers.{AreNumbersOf}

@@ -1,8 +1,8 @@
 //! The witness of one list.
 ghost use Rattle.std.specs.Prelude.{◌≡◌, ℕ, ◌+◌, ◌-◌, ◌<◌, ◌≤◌, ◌++◌, ◌∷◌, [], length, Contains, IsTrue, ◌↔◌, IfOk, OnOk, OnErr, MatchOption, MatchResult};
 ghost use Rattle.std.specs.List.{slice_get};
-ghost use Rattle.ra_list_order.specs.Edges.{IsCycle};
-ghost use Rattle.ra_list_edges.specs.Insertion.{neighborhood};
+ghost use Rattle.ra_labels.specs.Edges.{IsCycle};
+ghost use Rattle.ra_labels.specs.Neighborhood.{neighborhood};
 ghost use Rattle.ra_list_edges.specs.Pairs.{AddsPairs, with_pairs};
 ghost use Rattle.ra_list_replica.specs.declared.mark.Mark.TheVariants as marks;
 ghost use Rattle.ra_list_replica.specs.Numbers.{AreNumbersOf};
@@ -11,9 +11,9 @@ ghost use Rattle.ra_list_replica.specs.Listing.{AreAsLast};
 ghost use Rattle.ra_list_witness.specs.ListWitness.{view_at, mark_of, AreSameMarks, IsMarked};
 ghost use Rattle.ra_list_witness.specs.Causes.{IsHadAs, CanInsert, IsCauseAt, IsCauseOfNeighbor, IsCauseOfInsertion, first_cause};
 
-use ra_labels::{Cause, NoMemory};
-use ra_list_edges::{Insertion, add_insertion, add_read};
-use ra_list_order::{Edge, ListOrder};
+use ra_labels::{Cause, Edge, Insertion, NoMemory};
+use ra_list_edges::{add_insertion, add_read};
+use ra_list_order::ListOrder;
 use ra_list_replica::{ElementNumbers, Listed, Mark, ReplicaView};
 use std::alloc::Global;
 use std::marker::Model;

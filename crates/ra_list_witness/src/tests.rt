@@ -4,8 +4,7 @@ ghost use Rattle.std.specs.Prelude.{◌<◌};
 
 use crate::ListWitness;
 use crate::worked_examples::{ROWS, Step};
-use ra_labels::{Cause, NoMemory};
-use ra_list_edges::Insertion;
+use ra_labels::{Cause, Insertion, NoMemory};
 use ra_list_replica::Mark;
 use std::alloc::Global;
 use std::process::Abort;

@@ -184,7 +184,7 @@ impl Monitor {
     }
 
     /// Reserves room for this many entries, or for as many as the limit allows. While room is left, `step` does not
-    /// return `NoMemory` for a command that leaves the records unchanged (clause `settled`). An entry takes 72 bytes.
+    /// return `NoMemory` for a command that leaves the records unchanged (clause `settled`). An entry takes 80 bytes.
     ///
     /// # Errors
     ///
@@ -222,8 +222,8 @@ impl Monitor {
     ///
     /// # Complexity
     ///
-    /// O(n) for a counter or an OR-Set, and O(n r) for the other kinds, where `n` is the number of labels and `r` the
-    /// number of the order's runs.
+    /// O(n) for a counter, an OR-Set or a list, and O(n r) for the other kinds, where `n` is the number of labels and
+    /// `r` the number of the order's runs.
     pub fn sequence(&self) -> Result<Vec<PartRef>, NoMemory>
         // The result is the named sequence of the labels before the fault, or of all labels if there is none.
         ensures named { IfOk result (λ parts. parts.items
@@ -247,8 +247,8 @@ impl Monitor {
         ensures refused { result.refused ≡ refused_count self.now.log }
         // The fault is that of the log's records: the first label that fails and the first condition that it violates.
         ensures fault { result.fault ≡ fault_in self.now.setup self.now.log }
-        // For a counter or an OR-Set the fault is final: no sequence is an RA-linearization of the records up to its
-        // label, not even one that only extends visibility.
+        // For a counter, an OR-Set or a list the fault is final: no sequence is an RA-linearization of the records up
+        // to its label, not even one that only extends visibility.
         ensures final_fault { IsTrue (is_of_any_order self.now.setup.kind)
             → IsFinalFault self.now.setup self.now.log result.fault }
     {

@@ -1,18 +1,20 @@
 //! The functions that rewrite a label or an operation into its parts.
 ghost use Rattle.std.specs.Prelude.{◌≡◌, false, IfOk, IsOk};
+ghost use Rattle.ra_labels.specs.declared.operation.Op.TheVariants as operations;
 ghost use Rattle.ra_labels.specs.declared.operation.Op.TheVariants.{OrRemove};
 ghost use Rattle.ra_labels.specs.Rewriting.{acts_of};
 ghost use Rattle.ra_rewrite.specs.Parts.{acts_in};
 ghost use Rattle.ra_rewrite.specs.Memory.{takes_memory};
 
 use crate::part::{Part, Parts};
-use ra_labels::{Elements, Label, NoMemory, Op, Query, Update};
+use ra_labels::{Elements, Label, ListOp, ListQuery, ListUpdate, NoMemory, Op, Query, Update};
 
 /// Returns the parts of the label.
 ///
 /// # Errors
 ///
-/// `NoMemory` if allocation fails. Only the read of a set or of an RGA, and an OR-Set's removal allocate.
+/// `NoMemory` if allocation fails. Only the read of a set, of an RGA or of a list or its part, and an OR-Set's removal
+/// allocate.
 ///
 /// # Complexity
 ///
@@ -63,6 +65,7 @@ pub fn parts_of(op: &Op) -> Result<Parts, NoMemory>
         }),
         Op::RgaRemove(element) => Part::Update(Update::RgaRemove(*element)),
         Op::RgaRead(answer) => Part::Query(Query::RgaRead(answer.clone()?)),
+        Op::List(op) => return list_parts(op),
     };
     Ok(Parts::One(part))
 }
@@ -80,4 +83,28 @@ fn halves(element: u32, ids: &Elements) -> Result<Parts, NoMemory>
         ids: ids.clone()?,
     };
     Ok(Parts::Two(asked, taken))
+}
+
+// Returns the parts of a list's operation. An update has a query half, which asks for the elements that it names.
+fn list_parts(op: &ListOp) -> Result<Parts, NoMemory>
+    ensures acts { IfOk result (λ parts. acts_in parts ≡ acts_of (operations.List op.now)) }
+    ensures memory { takes_memory (operations.List op.now) ≡ false → IsOk result }
+{
+    let parts = match op {
+        ListOp::Insert(insertion) => Parts::Two(
+            Query::List(ListQuery::Near(*insertion)),
+            Update::List(ListUpdate::Put(*insertion)),
+        ),
+        ListOp::Remove(element) => Parts::Two(
+            Query::List(ListQuery::Has(*element)),
+            Update::List(ListUpdate::Hide(*element)),
+        ),
+        ListOp::Read(answer) => {
+            Parts::One(Part::Query(Query::List(ListQuery::Read(answer.clone()?))))
+        }
+        ListOp::Part(answer) => {
+            Parts::One(Part::Query(Query::List(ListQuery::Part(answer.clone()?))))
+        }
+    };
+    Ok(parts)
 }

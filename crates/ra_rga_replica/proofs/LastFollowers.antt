@@ -10,6 +10,7 @@ use Rattle.std.proofs.lemmas.List.Sorted.{length_permutation}
 use Rattle.ra_labels.specs.declared.kind.Kind.TheVariants.{Rga}
 use Rattle.ra_labels.specs.declared.operation.Op.{Op}
 use Rattle.ra_labels.specs.declared.operation.Op.TheVariants as op
+use Rattle.ra_labels.specs.declared.list_operation.ListOp.TheVariants as list
 use Rattle.ra_labels.specs.declared.operation.Update.{Update}
 use Rattle.ra_labels.specs.declared.operation.Query.{Query}
 use Rattle.ra_labels.specs.declared.label.Label.{Label}
@@ -218,6 +219,10 @@ two_acts false label half other u q = omega arith
 few_acts : (passes : ℕ → Bool) (label : Label) (o : Op)
     → length (updates_of (filter (λ (p : Part). passes p.label.number) (map (part_of label) (acts_of o)))) ≤ 1
 few_acts passes label (op.OrRemove x ids) = two_acts (passes label.number) label _ _ _ _
+few_acts passes label (op.List (list.Insert insertion)) = two_acts (passes label.number) label _ _ _ _
+few_acts passes label (op.List (list.Remove x)) = two_acts (passes label.number) label _ _ _ _
+few_acts passes label (op.List (list.Read elements)) = one_act (passes label.number) label _ _
+few_acts passes label (op.List (list.Part elements)) = one_act (passes label.number) label _ _
 few_acts passes label _ = one_act (passes label.number) label _ _
 
 few_updates : (passes : ℕ → Bool) (labels : List Label) → length (updates_among passes labels) ≤ length labels

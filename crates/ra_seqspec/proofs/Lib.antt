@@ -8,3 +8,5 @@ pub mod Keys
 pub mod RisingLists
 pub mod SeveralUpdates
 pub mod AnsweredQueries
+pub mod ListMembers
+pub mod ListAnswers

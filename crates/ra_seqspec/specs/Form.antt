@@ -2,9 +2,10 @@
 use Rattle.std.specs.Ordering.{nat_cmp}
 use Rattle.std.specs.BTreeSet.{IsOrdered}
 use Rattle.ra_labels.specs.Lists.{pair_cmp}
-use Rattle.ra_labels.specs.Specification.{State, Number, Written, Members, Pairs, Listed}
+use Rattle.ra_labels.specs.Specification.{State, Number, Written, Members, Pairs, Listed, Listing}
 use Rattle.ra_seqspec.specs.declared.state.Form.{Form}
 use Rattle.ra_seqspec.specs.declared.state.Form.TheVariants.{Counter, Register, LwwSet, OrSet, Rga}
+use Rattle.ra_seqspec.specs.declared.state.Form.TheVariants as forms
 
 abbrev pub state_of : Form → State
 state_of (Counter n) = Number n
@@ -12,6 +13,7 @@ state_of (Register last) = Written last
 state_of (LwwSet set) = Members set.keys
 state_of (OrSet set) = Pairs set.keys
 state_of (Rga list) = Listed list
+state_of (forms.List list) = Listing list
 
 -- holds if a set's elements, or its pairs, are strictly increasing
 abbrev pub StateKept : Form → Type 0
@@ -20,3 +22,4 @@ StateKept (Register last) = Unit {0}
 StateKept (LwwSet set) = IsOrdered nat_cmp set
 StateKept (OrSet set) = IsOrdered pair_cmp set
 StateKept (Rga list) = Unit {0}
+StateKept (forms.List list) = Unit {0}

@@ -6,3 +6,4 @@ pub mod Rga
 pub mod Pairs
 pub mod Updates
 pub mod Answered
+pub mod ListElements

@@ -1,6 +1,6 @@
 -- The range of a counter's number.
 use Rattle.std.specs.Prelude.{pos, neg_ℤ, ◌≤ℤ◌}
-use Rattle.ra_labels.specs.Specification.{State, Number, Written, Members, Pairs, Listed}
+use Rattle.ra_labels.specs.Specification.{State, Number, Written, Members, Pairs, Listed, Listing}
 use Rattle.ra_seqspec.specs.declared.TheConstants.{FARTHEST_COUNT}
 
 -- holds if a counter's number is from -FARTHEST_COUNT to FARTHEST_COUNT
@@ -10,3 +10,4 @@ IsInRange (Written last) = Unit {0}
 IsInRange (Members xs) = Unit {0}
 IsInRange (Pairs pairs) = Unit {0}
 IsInRange (Listed list) = Unit {0}
+IsInRange (Listing list) = Unit {0}

@@ -4,9 +4,12 @@
 //! (`ra_labels/specs/Specification`).
 #![tactic(auto)]
 
+mod list;
 mod pairs;
 mod rga;
 mod state;
+#[cfg(test)]
+mod tests;
 pub mod theorems;
 
 pub use state::State;

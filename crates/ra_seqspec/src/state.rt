@@ -11,6 +11,7 @@ ghost use Rattle.ra_seqspec.specs.Memory.{takes_memory, update_takes_memory};
 ghost use Rattle.ra_seqspec.specs.Updates.{after_all};
 ghost use Rattle.ra_seqspec.specs.Answered.{answered_in};
 
+use crate::list::ListElements;
 use crate::pairs;
 use crate::rga::RgaList;
 use ra_labels::{Elements, Kind, NoMemory, Query, Update};
@@ -35,8 +36,10 @@ enum Form {
     LwwSet(BTreeSet<u32>),
     // The pairs of an element and the identifier of one of its additions.
     OrSet(BTreeSet<(u32, u32)>),
-    // The list.
+    // The list of an RGA.
     Rga(RgaList),
+    // The elements of a list.
+    List(ListElements),
 }
 
 impl Model for State {
@@ -65,6 +68,7 @@ impl State {
             Kind::LwwSet => Form::LwwSet(BTreeSet::new(alloc)),
             Kind::OrSet => Form::OrSet(BTreeSet::new(alloc)),
             Kind::Rga => Form::Rga(RgaList::new(alloc)),
+            Kind::List => Form::List(ListElements::new(alloc)),
         };
         Ok(State { form })
     }
@@ -90,6 +94,7 @@ impl State {
             Form::LwwSet(elements) => Form::LwwSet(elements.clone()?),
             Form::OrSet(pairs) => Form::OrSet(pairs.clone()?),
             Form::Rga(list) => Form::Rga(list.copy()?),
+            Form::List(list) => Form::List(list.copy()?),
         };
         Ok(State { form })
     }
@@ -99,13 +104,13 @@ impl State {
     ///
     /// # Errors
     ///
-    /// `NoMemory` if allocation fails; the state is unchanged. Only a new element, a new pair, or an admitted insertion
-    /// into an RGA allocates.
+    /// `NoMemory` if allocation fails; the state is unchanged. Only a new element, a new pair, an admitted insertion
+    /// into an RGA or a list, or the first removal of a list's element allocates.
     ///
     /// # Complexity
     ///
-    /// O(1) for a counter or a register. O(log n) for a set with `n` entries, for each identifier of an OR-Set's
-    /// removal. A constant number of hash map operations for an RGA.
+    /// O(1) for a counter or a register. O(log n) for a set or a list with `n` entries, for each identifier of an
+    /// OR-Set's removal. A constant number of hash map operations for an RGA.
     pub fn apply(&mut self, update: &Update) -> Result<bool, NoMemory>
         // The update keeps a counter's number between `-FARTHEST_COUNT` and `FARTHEST_COUNT`, if it is admitted.
         requires { IfSome (step_of self.old update.now) IsInRange }
@@ -115,7 +120,8 @@ impl State {
         ensures step { IfOk result (λ is_admitted. self.new ≡ unwrap_or (step_of self.old update.now) self.old) }
         // If allocation fails, the state is unchanged.
         ensures err { OnErr result (self.new ≡ self.old) }
-        // Without a new element, a new pair or an admitted insertion into an RGA, the call succeeds.
+        // Without a new element, a new pair, an admitted insertion into an RGA or a list, or the first removal of a
+        // list's element, the call succeeds.
         ensures memory { update_takes_memory self.old update.now ≡ false → IsOk result }
     {
         match (&mut self.form, update) {
@@ -136,6 +142,7 @@ impl State {
                 return list.insert_after(*anchor, *element);
             }
             (Form::Rga(list), Update::RgaRemove(element)) => return Ok(list.hide(*element)),
+            (Form::List(list), Update::List(change)) => return list.apply(change),
             _ => return Ok(false),
         }
         Ok(true)
@@ -165,13 +172,14 @@ impl State {
         list.apply_all(updates)
     }
 
-    /// Returns `true` if the query's answer is that of this state. The caller ensures that an answer which has to be
-    /// strictly increasing is. Does not allocate.
+    /// Returns `true` if the query's answer is that of this state. The order of a list's elements is not compared. The
+    /// caller ensures that an answer which has to be strictly increasing is. Does not allocate.
     ///
     /// # Complexity
     ///
     /// O(1) for a counter or a register, and O(n) for a read of `n` elements or pairs, those that an RGA hides
-    /// included. O(log n + k) for the query of an element's `k` identifiers.
+    /// included. O(log n + k) for the query of an element's `k` identifiers. O(log n) for the query of a list's update,
+    /// and quadratic for its reads: O(k² + n (k + log n)) for a read of `k` elements, O(k² + k log n) for a part.
     pub fn admits(&self, query: &Query) -> bool
         // If the query has a list of a set's elements or of identifiers, the list is strictly increasing.
         requires { asks_rising query.now ≡ true }
@@ -192,13 +200,18 @@ impl State {
                 pairs::are_elements(pairs, answer.as_slice())
             }
             (Form::Rga(list), Query::RgaRead(answer)) => list.shows(answer.as_slice()),
+            (Form::List(list), Query::List(question)) => list.admits(question),
             _ => false,
         }
     }
 
     /// Returns the query with the answer of this state instead of its own, or `None` if it belongs to another kind. The
     /// new answer is right. If the query's own answer is right and any list that has to be strictly increasing is, the
-    /// result equals the query. A list lives in `alloc`.
+    /// result equals the query. The elements live in `alloc`.
+    ///
+    /// Several answers to a query of a list may be right. A wrong read becomes the shown elements in increasing order,
+    /// and a wrong part its shown elements, each once. The result is `None` for the query of a list's update that names
+    /// an element which is not in the list.
     ///
     /// # Errors
     ///
@@ -208,7 +221,8 @@ impl State {
     ///
     /// As `admits`.
     pub fn answer(&self, alloc: Global, query: &Query) -> Result<Option<Query>, NoMemory>
-        // The result is the query with this state's answer, or `None` if the query belongs to another kind.
+        // The result is the query with this state's answer, or `None` if the query belongs to another kind or is that
+        // of a list's update which names an element that is not in the list.
         ensures answer { IfOk result (λ answer. answer ≡ answered_in self.now query.now) }
         // The answer in the result is right in this state.
         ensures right { IfOk result (λ answer. IfSome answer (λ it. answers self.now it ≡ true)) }
@@ -229,6 +243,9 @@ impl State {
             },
             (Form::OrSet(pairs), Query::OrRead(_)) => Query::OrRead(pairs::elements(alloc, pairs)?),
             (Form::Rga(list), Query::RgaRead(_)) => Query::RgaRead(list.shown(alloc)?),
+            (Form::List(list), Query::List(question)) => {
+                return Ok(list.answer(alloc, question)?.map(Query::List));
+            }
             _ => return Ok(None),
         };
         Ok(Some(answer))

@@ -1,7 +1,8 @@
 //! The data of a replica to which nothing is delivered: its possible updates, and the answers of its reads.
+ghost use Rattle.std.specs.Prelude.{◌≤◌, length};
 
 use crate::chance::Chance;
-use ra_labels::{Elements, Kind, Op};
+use ra_labels::{Elements, Insertion, Kind, ListOp, Op};
 use std::alloc::{AllocError, Global};
 
 /// The largest number of elements that a replica holds.
@@ -21,7 +22,7 @@ pub struct Held {
     count: i32,
     last: Option<u32>,
     // The elements in the order of the list, which ascends in a set. A new element of an RGA has a greater stamp than
-    // all that the replica holds, so it goes directly behind its anchor.
+    // all that the replica holds, so it goes directly behind its anchor; one of a list, behind its left neighbour.
     elements: Vec<u32>,
     // The number of elements that were ever added.
     made: u32,
@@ -62,7 +63,19 @@ impl Held {
                 anchor: self.some_element(chance).unwrap_or(0),
                 element: self.fresh(),
             },
+            (Kind::List, Some(element)) => Op::List(ListOp::Remove(element)),
+            (Kind::List, None) => self.insertion(self.some_element(chance).unwrap_or(0)),
         })
+    }
+
+    // Returns the insertion of a new element behind this one, or at the beginning for 0.
+    fn insertion(&self, left: u32) -> Op {
+        let right = self.elements.get(self.place_behind(left)).copied();
+        Op::List(ListOp::Insert(Insertion {
+            left,
+            element: self.fresh(),
+            right: right.unwrap_or(0),
+        }))
     }
 
     // Returns one of the elements, more probably the more there are.
@@ -86,6 +99,7 @@ impl Held {
             Kind::LwwSet => Op::LwwRead(Elements::new(self.elements.clone()?)),
             Kind::OrSet => Op::OrRead(Elements::new(self.elements.clone()?)),
             Kind::Rga => Op::RgaRead(Elements::new(self.elements.clone()?)),
+            Kind::List => Op::List(ListOp::Read(Elements::new(self.elements.clone()?))),
         })
     }
 
@@ -99,6 +113,7 @@ impl Held {
             Kind::LwwSet => Op::LwwRead(Elements::new(elements)),
             Kind::OrSet => Op::OrRead(Elements::new(elements)),
             Kind::Rga => Op::RgaRead(Elements::new(elements)),
+            Kind::List => Op::List(ListOp::Read(Elements::new(elements))),
         })
     }
 
@@ -113,9 +128,14 @@ impl Held {
                 self.take_out(*element)
             }
             Op::After { anchor, element } => self.put_behind(*anchor, *element)?,
+            Op::List(ListOp::Insert(Insertion { left, element, .. })) => {
+                self.put_behind(*left, *element)?
+            }
+            Op::List(ListOp::Remove(element)) => self.take_out(*element),
             Op::Count(_) | Op::Last(_) | Op::LwwRead(_) | Op::OrRead(_) | Op::RgaRead(_) => {}
+            Op::List(ListOp::Read(_) | ListOp::Part(_)) => {}
         }
-        if matches!(op, Op::LwwAdd(_) | Op::OrAdd { .. } | Op::After { .. }) {
+        if adds(op) {
             self.made = self.made.wrapping_add(1);
         }
         Ok(())
@@ -127,10 +147,26 @@ impl Held {
 
     // Inserts the element directly behind the anchor, or at the beginning if the anchor is missing.
     fn put_behind(&mut self, anchor: u32, element: u32) -> Result<(), AllocError> {
-        let place = self.elements.iter().position(|it| *it == anchor);
-        self.elements.insert(place.map_or(0, |at| at + 1), element)?;
+        let place = self.place_behind(anchor);
+        self.elements.insert(place, element)?;
         Ok(())
     }
+
+    // Returns the place directly behind this element, or the first place if the element is missing.
+    fn place_behind(&self, element: u32) -> usize
+        ensures { result ≤ length self.now.elements.items }
+    {
+        let place = self.elements.iter().position(|it| *it == element);
+        place.map_or(0, |at| at + 1)
+    }
+}
+
+// Returns `true` if the operation adds a new element.
+fn adds(op: &Op) -> bool {
+    matches!(
+        op,
+        Op::LwwAdd(_) | Op::OrAdd { .. } | Op::After { .. } | Op::List(ListOp::Insert(_))
+    )
 }
 
 // Returns a list of one identifier.

@@ -14,12 +14,13 @@ use std::sync::Wait;
 use std::thread::Threads;
 use std::time::{Clock, Duration, Instant};
 
-const KINDS: [Kind; 5] = [
+const KINDS: [Kind; 6] = [
     Kind::Counter,
     Kind::Register,
     Kind::LwwSet,
     Kind::OrSet,
     Kind::Rga,
+    Kind::List,
 ];
 
 // The counts of one round, or of all rounds.
@@ -114,7 +115,7 @@ pub fn soak<R: Threads + Wait + Clock + Print + Sync>(
 
 // Returns the parameters of the next round. One in four has a lie, and one in four a log that may be too short.
 fn setting_of(number: u32, chance: &mut Chance) -> Setting {
-    let kind = KINDS[(number % 5) as usize];
+    let kind = KINDS[(number % 6) as usize];
     let lie = if chance.is_one_in(4) {
         Some((chance.below(u32::from(WRITERS)) as u8, chance.below(100)))
     } else {

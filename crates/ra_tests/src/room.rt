@@ -61,7 +61,7 @@ fn two_reserved_entries_are_answered(rt: HostRuntime) {
 // The size in bytes that docs/howto/run_continuously.md states for an entry.
 #[test]
 fn an_entry_has_its_size(rt: HostRuntime) {
-    assert_eq!(rt; mem::size_of::<Entry<Command, Reply>>(), 72);
+    assert_eq!(rt; mem::size_of::<Entry<Command, Reply>>(), 80);
 }
 
 // A reservation ends at the limit of the log.

@@ -1,14 +1,15 @@
--- Lemmas on counters and OR-Sets: every order that explains the removals leads to the same state, so a violation is
--- final.
-use Rattle.std.proofs.Common.{◌≡◌, ℕ, Bool, true, false, cond, List, [], ◌∷◌, ◌++◌, filter, Option, Some, None, refl, sym, ap, ◌∙◌, subst, inl, inr, arith}
-use Rattle.std.specs.Prelude.{◌↔◌, ◌⊎◌, ◌==◌, ◌&&◌, ◌||◌, not, is_some, Contains, IsPermutation, pos, ◌-ℤ◌}
+-- Lemmas on counters, OR-Sets and lists: every order that explains the removals leads to the same state, so a violation
+-- is final.
+use Rattle.std.proofs.Common.{◌≡◌, ℕ, Bool, true, false, cond, List, [], ◌∷◌, ◌++◌, filter, Option, Some, None, refl, sym, ap, ◌∙◌, subst, inl, inr}
+use Rattle.std.specs.Prelude.{◌↔◌, ◌⊎◌, ◌==◌, ◌&&◌, not, is_some, Contains, IsPermutation, pos, ◌-ℤ◌}
 use Rattle.std.specs.List.{list_all, cons_option}
-use Rattle.std.proofs.lemmas.Bool.{false≢true, and_parts, and_from, eqb-true, not-true, not_from_false, false_from_ne_true, or_left}
+use Rattle.std.proofs.lemmas.Bool.{false≢true, and_parts, and_from, eqb-true, not-true, not_from_false, false_from_ne_true}
 use Rattle.std.proofs.lemmas.Option.{none-some}
 use Rattle.std.proofs.lemmas.List.Elements.{Contains-append_right}
 use Rattle.std.proofs.lemmas.List.Sorted.{Contains-permutation, IsPermutation-sym, sum_by-IsPermutation}
 use Rattle.ra_labels.specs.declared.kind.Kind.{Kind}
-use Rattle.ra_labels.specs.declared.kind.Kind.TheVariants.{Counter, OrSet, Rga}
+use Rattle.ra_labels.specs.declared.kind.Kind.TheVariants.{Counter, OrSet}
+use Rattle.ra_labels.specs.declared.kind.Kind.TheVariants as kinds
 use Rattle.ra_labels.specs.declared.operation.Op.TheVariants as op
 use Rattle.ra_labels.specs.declared.operation.Update.{Update}
 use Rattle.ra_labels.specs.declared.operation.Update.TheVariants.{OrAdd, TakeOut}
@@ -23,13 +24,13 @@ use Rattle.ra_labels.specs.Visibility.{sees}
 use Rattle.ra_labels.specs.Rewriting.{Part, Does, parts_of, update_of, updates_of}
 use Rattle.ra_labels.specs.Lists.{is_among}
 use Rattle.ra_labels.specs.Specification.{State, Number, Pairs, answers, state_after, is_admitted}
-use Rattle.ra_labels.specs.Linearization.{parts_in, is_visible_to, is_earlier_at_replica, is_query_half_of, must_precede, extends, visible_updates, IsRaLinearizationBy, IsRaLinearization}
+use Rattle.ra_labels.specs.Linearization.{parts_in, is_visible_to, must_precede, extends, visible_updates, IsRaLinearization}
 use Rattle.ra_labels.specs.NamedOrder.{named_sequence}
 use Rattle.ra_labels.specs.Fault.{Holds, fault_of}
 use Rattle.ra_labels.specs.Answer.{is_kind}
-use Rattle.ra_labels.specs.TheoremTerms.{kind_of_update, removes_pair, NoneRemovesPair, IsPresentPair, IdentifiersAreUnique}
+use Rattle.ra_labels.specs.TheoremTerms.{kind_of_update, admits_all, removes_pair, NoneRemovesPair, IsPresentPair, IdentifiersAreUnique}
 use Rattle.ra_labels.proofs.InLists.{list_all-contains, list_all-from_contains, among-exactly}
-use Rattle.ra_labels.proofs.Members.{head_or_behind, at_head, behind_head, split_at, there-kept, kept-there, piece_of}
+use Rattle.ra_labels.proofs.Members.{at_head, behind_head, split_at, there-kept, piece_of}
 use Rattle.ra_labels.proofs.Parts.{part_is_of}
 use Rattle.ra_theorems.specs.Counters.{increments_in, decrements_in}
 use Rattle.ra_theorems.specs.AnyOrder.{is_of_any_order, updates_that_pass, IsOrderOf, IsAddedAndNeverTakenOut, IsFinal}
@@ -39,47 +40,13 @@ use Rattle.ra_theorems.proofs.Meanings.{some-exactly, queries-exactly}
 use Rattle.ra_theorems.proofs.Faults.{IsPermutation-named_sequence, no_cause_from_holds, fault_is_least}
 use Rattle.ra_theorems.proofs.Extensions.{extends-weaker}
 use Rattle.ra_theorems.proofs.Ranks.{counter-extends, or_set-extends}
-use Rattle.ra_theorems.proofs.LastUpdates.{in_option}
 use Rattle.ra_theorems.proofs.CountedParts.{ups_of, downs_of, ups_sum, downs_sum, sum_same}
+use Rattle.ra_theorems.proofs.AmongParts.{AreAmong, updates_among, shuffled_among, seen_by, extends-filter, Linearizes, named_in, in_named, visible_among, seen_must_precede}
+use Rattle.ra_theorems.proofs.ListsInAnyOrder.{named_list_linearizes}
 use Rattle.ra_theorems.proofs.Deliveries.{op_of, does_it, update_from, part_makes, made_by, some_pairs, added_in, removal-sees_in}
 
--- ---- the two kinds
-
-not_rga : (kind : Kind) → is_of_any_order kind ≡ true → ¬ (kind ≡ Rga)
-not_rga kind any is = false≢true (sym (ap is_of_any_order is) ∙ any)
-
--- ---- updates of parts
-
-in_updates : (parts : List Part) (p : Part) (u : Update) → Contains parts p → p.act ≡ Does u
-    → Contains (updates_of parts) u
-in_updates [] p u there does = absurd (omega (arith, there.1))
-in_updates (q ∷ qs) p u there does = elim (head_or_behind q qs p there) [
-  | inl here ↦
-      subst (λ o. Contains (cons_option o (updates_of qs)) u)
-      (sym (ap (λ (r : Part). update_of r.act) here ∙ ap update_of does)) (at_head u (updates_of qs) u refl)
-  | inr further ↦ in_option (update_of q.act) (updates_of qs) u (in_updates qs p u further does)
-]
-
--- every part of one list is a part of the other
-abbrev AreAmong : List Part → List Part → Type 0
-AreAmong ps qs = (p : Part) → Contains ps p → Contains qs p
-
-updates_among : (ps qs : List Part) → AreAmong ps qs → (u : Update) → Contains (updates_of ps) u
-    → Contains (updates_of qs) u
-updates_among ps qs among u there =
-    let (p, found, does) = update_from ps u there in
-    in_updates qs p u (among p found) does
-
-filter_among : (ps qs : List Part) (test : Part → Bool) → AreAmong ps qs → AreAmong (filter test ps) (filter test qs)
-filter_among ps qs test among p there =
-    let kept = there-kept test ps p there in
-    kept-there test qs p (among p kept.0) kept.1
-
-shuffled_among : (ps qs : List Part) → IsPermutation ps qs → AreAmong ps qs
-shuffled_among ps qs same p there = Contains-permutation ps qs p same there
-
--- for a kind other than RGA, updates taken from among admitted ones are admitted
-admitted_among : (kind : Kind) (us vs : List Update) → ¬ (kind ≡ Rga)
+-- for a kind whose states admit all its updates, updates taken from among admitted ones are admitted
+admitted_among : (kind : Kind) (us vs : List Update) → admits_all kind ≡ true
     → ((u : Update) → Contains vs u → Contains us u) → is_admitted kind us ≡ true → is_admitted kind vs ≡ true
 admitted_among kind us vs other among is =
     let of_kind : Update → Bool = λ u. is_kind kind (kind_of_update u) in
@@ -212,10 +179,10 @@ order_in records passes parts order p there =
     (there-kept (does_pass passes) (parts_in records) p (order_among records passes parts order p there)).0
 
 pub any_order-admitted : (kind : Kind) (records : Records) (passes : ℕ → Bool) (parts : List Part)
-    → is_of_any_order kind ≡ true → Holds kind records → IsOrderOf records passes parts
+    → admits_all kind ≡ true → Holds kind records → IsOrderOf records passes parts
     → is_admitted kind (updates_of parts) ≡ true
-any_order-admitted kind records passes parts any holds order =
-    admitted_among kind (updates_of (named_sequence kind records)) (updates_of parts) (not_rga kind any)
+any_order-admitted kind records passes parts all holds order =
+    admitted_among kind (updates_of (named_sequence kind records)) (updates_of parts) all
     (updates_among parts (named_sequence kind records) (λ p there.
     Contains-permutation (parts_in records) (named_sequence kind records) p holds.each_part_once
     (order_in records passes parts order p there))) holds.updates
@@ -251,25 +218,6 @@ any_order-or_set records passes parts pairs x id holds once order led =
 
 -- ---- if any sequence linearizes, the named sequence does
 
--- of a sequence, the parts that label n sees
-abbrev seen_by : Records → ℕ → Part → Bool
-seen_by records n p = sees records n p.label.number
-
-extends-filter : (precedes : Part → Part → Bool) (test : Part → Bool) (ps : List Part) → extends precedes ps ≡ true
-    → extends precedes (filter test ps) ≡ true
-extends-filter precedes test [] extended = refl
-extends-filter precedes test (p ∷ ps) extended =
-    let pieces = and_parts (list_all (λ q. not (precedes q p)) ps) (extends precedes ps) extended in
-    with_one (test p) pieces.0 (extends-filter precedes test ps pieces.1)
-  where
-    with_one : (b : Bool) → list_all (λ q. not (precedes q p)) ps ≡ true → extends precedes (filter test ps) ≡ true
-        → extends precedes (cond b (p ∷ filter test ps) (filter test ps)) ≡ true
-    with_one false none rest = rest
-    with_one true none rest =
-        and_from (list_all (λ q. not (precedes q p)) (filter test ps)) (extends precedes (filter test ps))
-        (list_all-from_contains (λ q. not (precedes q p)) (filter test ps) (λ q found.
-        list_all-contains (λ r. not (precedes r p)) ps q none (there-kept test ps q found).0)) rest
-
 -- each query is admitted that another sequence admits, if the named sequence leads its label to the same state
 abbrev AnswersSo : Kind → Records → List Part → Type 0
 AnswersSo kind records sequence = (n : ℕ) (query : Query) (state : State)
@@ -277,50 +225,26 @@ AnswersSo kind records sequence = (n : ℕ) (query : Query) (state : State)
     → (other : State) → state_after kind (visible_updates records (named_sequence kind records) n) ≡ Some other
     → answers other query ≡ true
 
-abbrev Linearizes : Kind → Records → List Part → Type 0
-Linearizes kind records sequence = IsRaLinearizationBy (is_visible_to records) kind records sequence
-
-named_in : (kind : Kind) (records : Records) (sequence : List Part) → Linearizes kind records sequence
-    → AreAmong (named_sequence kind records) sequence
-named_in kind records sequence linearizes p there =
-    Contains-permutation (parts_in records) sequence p linearizes.each_part_once
-    (Contains-permutation (named_sequence kind records) (parts_in records) p
-    (IsPermutation-sym (parts_in records) (named_sequence kind records) (IsPermutation-named_sequence kind records))
-    there)
-
-in_named : (kind : Kind) (records : Records) (sequence : List Part) → Linearizes kind records sequence
-    → AreAmong sequence (named_sequence kind records)
-in_named kind records sequence linearizes p there =
-    Contains-permutation (parts_in records) (named_sequence kind records) p (IsPermutation-named_sequence kind records)
-    (Contains-permutation sequence (parts_in records) p
-    (IsPermutation-sym (parts_in records) sequence linearizes.each_part_once) there)
-
--- if the parts of one order are among those of another, so are the updates that a label sees
-visible_among : (records : Records) (ps qs : List Part) (n : ℕ) → AreAmong ps qs → (u : Update)
-    → Contains (visible_updates records ps n) u → Contains (visible_updates records qs n) u
-visible_among records ps qs n among =
-    updates_among (filter (seen_by records n) ps) (filter (seen_by records n) qs)
-    (filter_among ps qs (seen_by records n) among)
-
-named_linearizes : (kind : Kind) (records : Records) (sequence : List Part) → is_of_any_order kind ≡ true
+named_linearizes : (kind : Kind) (records : Records) (sequence : List Part) → admits_all kind ≡ true
     → Linearizes kind records sequence → extends (must_precede records) (named_sequence kind records) ≡ true
     → AnswersSo kind records sequence → Holds kind records
-named_linearizes kind records sequence any linearizes extended so =
+named_linearizes kind records sequence all linearizes extended so =
     let named = named_sequence kind records in
     let among = named_in kind records sequence linearizes in
     record {
       each_part_once = IsPermutation-named_sequence kind records;
       visibility = extended;
-      updates = admitted_among kind (updates_of sequence) (updates_of named) (not_rga kind any)
+      updates = admitted_among kind (updates_of sequence) (updates_of named) all
           (updates_among named sequence among) linearizes.updates;
       queries = (queries-exactly kind records named).1 (λ part query there asks.
           let n = part.label.number in
           let (state, led, answered) =
           (queries-exactly kind records sequence).0 linearizes.queries part query (among part there) asks in
           let admitted = admitted_among kind (visible_updates records sequence n) (visible_updates records named n)
-          (not_rga kind any) (visible_among records named sequence n among) (ap is_some led) in
+          all (visible_among records named sequence n among) (ap is_some led) in
           let (other, led_other) = (some-exactly (state_after kind (visible_updates records named n))).0 admitted in
           (other, led_other, so n query state led answered other led_other));
+      order = linearizes.order;
     }
 
 -- a counter's number is the same in both orders
@@ -343,13 +267,6 @@ counter_so records sequence linearizes n query state led answered other led_othe
     let same : state ≡ other = counter_is us state led ∙ (λ i. Number (pos (up i) -ℤ pos (down i)))
     ∙ sym (counter_is vs other led_other) in
     subst (λ s. answers s query ≡ true) same answered
-
--- a part must precede each part to which it is visible
-seen_must_precede : (records : Records) (p q : Part) → is_visible_to records p q ≡ true
-    → must_precede records p q ≡ true
-seen_must_precede records p q seen =
-    or_left (is_visible_to records p q || is_earlier_at_replica p q) (is_query_half_of p q)
-    (or_left (is_visible_to records p q) (is_earlier_at_replica p q) seen)
 
 -- queries have the same answers on lists with the same pairs
 answers_alike : (ps qs : List (ℕ × ℕ)) → ((x id : ℕ) → Contains ps (x, id) ↔ Contains qs (x, id)) → (query : Query)
@@ -410,11 +327,12 @@ or_set_so records sequence once linearizes n query state led answered other led_
 pub named-where_any : (kind : Kind) (records : Records) (sequence : List Part) → is_of_any_order kind ≡ true
     → IdentifiersAreUnique records → Linearizes kind records sequence → Holds kind records
 named-where_any Counter records sequence any once linearizes =
-    named_linearizes Counter records sequence any linearizes (counter-extends records)
+    named_linearizes Counter records sequence refl linearizes (counter-extends records)
     (counter_so records sequence linearizes)
 named-where_any OrSet records sequence any once linearizes =
-    named_linearizes OrSet records sequence any linearizes (or_set-extends records)
+    named_linearizes OrSet records sequence refl linearizes (or_set-extends records)
     (or_set_so records sequence once linearizes)
+named-where_any kinds.List records sequence any once linearizes = named_list_linearizes records sequence linearizes
 named-where_any _ records sequence any once linearizes = absurd (false≢true any)
 
 -- an RA-linearization also linearizes by visibility alone, which is the weaker order
@@ -426,6 +344,7 @@ by_visibility kind records sequence linearizes = record {
       linearizes.visibility;
   updates = linearizes.updates;
   queries = linearizes.queries;
+  order = linearizes.order;
 }
 
 -- ---- a violation is final

@@ -9,6 +9,7 @@ use Rattle.std.proofs.lemmas.Bool.{true≢false, cases_Bool, not_from_false}
 use Rattle.std.proofs.lemmas.List.Elements.{Contains-append_left, Contains-append_right, Contains-append_cases}
 use Rattle.ra_labels.specs.declared.kind.Kind.{Kind}
 use Rattle.ra_labels.specs.declared.kind.Kind.TheVariants.{Counter, Register, LwwSet, OrSet, Rga}
+use Rattle.ra_labels.specs.declared.kind.Kind.TheVariants as kinds
 use Rattle.ra_labels.specs.declared.operation.Update.{Update}
 use Rattle.ra_labels.specs.declared.operation.Update.TheVariants.{After, RgaRemove}
 use Rattle.ra_labels.specs.declared.label.Stamp.{Stamp}
@@ -308,12 +309,13 @@ stamps_decide kind records l m s t l_rank m_rank l_has m_has other =
     ∙ by_first (stamp_cmp s t) (nat_cmp l.number m.number) (λ tie. other ((stamp_same s t).0 tie))
 
 pub own-stamps : (kind : Kind) (records : Records) (l m : Label) (s t : Stamp) → ¬ (kind ≡ Counter) → ¬ (kind ≡ OrSet)
-    → l.stamp ≡ Some s → m.stamp ≡ Some t → ¬ (s ≡ t) → label_cmp kind records l m ≡ stamp_cmp s t
-own-stamps Counter records l m s t not_this nor_this l_has m_has other = absurd (not_this refl)
-own-stamps Register records l m s t not_this nor_this l_has m_has other =
+    → ¬ (kind ≡ kinds.List) → l.stamp ≡ Some s → m.stamp ≡ Some t → ¬ (s ≡ t) → label_cmp kind records l m ≡ stamp_cmp s t
+own-stamps Counter records l m s t not_this nor_this nor_list l_has m_has other = absurd (not_this refl)
+own-stamps Register records l m s t not_this nor_this nor_list l_has m_has other =
     stamps_decide Register records l m s t refl refl l_has m_has other
-own-stamps LwwSet records l m s t not_this nor_this l_has m_has other =
+own-stamps LwwSet records l m s t not_this nor_this nor_list l_has m_has other =
     stamps_decide LwwSet records l m s t refl refl l_has m_has other
-own-stamps OrSet records l m s t not_this nor_this l_has m_has other = absurd (nor_this refl)
-own-stamps Rga records l m s t not_this nor_this l_has m_has other =
+own-stamps OrSet records l m s t not_this nor_this nor_list l_has m_has other = absurd (nor_this refl)
+own-stamps kinds.List records l m s t not_this nor_this nor_list l_has m_has other = absurd (nor_list refl)
+own-stamps Rga records l m s t not_this nor_this nor_list l_has m_has other =
     stamps_decide Rga records l m s t refl refl l_has m_has other

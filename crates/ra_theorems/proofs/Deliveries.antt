@@ -11,8 +11,11 @@ use Rattle.ra_labels.specs.declared.kind.Kind.{Kind}
 use Rattle.ra_labels.specs.declared.kind.Kind.TheVariants.{Counter, Register, LwwSet, OrSet}
 use Rattle.ra_labels.specs.declared.operation.Op.{Op}
 use Rattle.ra_labels.specs.declared.operation.Op.TheVariants as op
+use Rattle.ra_labels.specs.declared.list_operation.ListOp.TheVariants as list
 use Rattle.ra_labels.specs.declared.operation.Update.{Update}
 use Rattle.ra_labels.specs.declared.operation.Update.TheVariants.{Inc, Dec, Write, LwwAdd, LwwRemove, OrAdd, TakeOut, After, RgaRemove}
+use Rattle.ra_labels.specs.declared.operation.Update.TheVariants as updates
+use Rattle.ra_labels.specs.declared.list_operation.ListUpdate.TheVariants as change
 use Rattle.ra_labels.specs.declared.operation.Query.{Query}
 use Rattle.ra_labels.specs.declared.operation.Query.TheVariants.{ReadIds}
 use Rattle.ra_labels.specs.declared.label.Label.{Label}
@@ -82,6 +85,8 @@ op_of (OrAdd x id) = op.OrAdd x id
 op_of (After anchor x) = op.After anchor x
 op_of (RgaRemove x) = op.RgaRemove x
 op_of (TakeOut x ids) = op.OrRemove x ids
+op_of (updates.List (change.Put insertion)) = op.List (list.Insert insertion)
+op_of (updates.List (change.Hide x)) = op.List (list.Remove x)
 
 its_act : (half : Half) (act : Act) (which : Half) (u : Update)
     → Contains {X = Half × Act} ((half, act) ∷ []) (which, Does u) → act ≡ Does u
@@ -98,17 +103,25 @@ no_update : (half : Half) (query : Query) (which : Half) (u : Update)
     → Contains {X = Half × Act} ((half, Asks query) ∷ []) (which, Does u) → ⊥
 no_update half query which u there = none-some u (ap update_of (its_act half (Asks query) which u there))
 
+second_update : (query : Query) (v : Update) (which : Half) (u : Update)
+    → Contains {X = Half × Act} ((QueryHalf, Asks query) ∷ (UpdateHalf, Does v) ∷ []) (which, Does u) → v ≡ u
+second_update query v which u there =
+    elim (head_or_behind (QueryHalf, Asks query) ((UpdateHalf, Does v) ∷ []) (which, Does u) there) [
+      | inl same ↦ absurd (none-some u (ap (λ (a : Half × Act). update_of a.1) same))
+      | inr later ↦ its_update UpdateHalf v which u later
+    ]
+
 pub made_by : (operation : Op) (u : Update) → HasUpdate operation u → operation ≡ op_of u
 made_by (op.Count v) u (half, there) = absurd (no_update _ _ half u there)
 made_by (op.Last value) u (half, there) = absurd (no_update _ _ half u there)
 made_by (op.LwwRead list) u (half, there) = absurd (no_update _ _ half u there)
 made_by (op.OrRead list) u (half, there) = absurd (no_update _ _ half u there)
 made_by (op.RgaRead list) u (half, there) = absurd (no_update _ _ half u there)
-made_by (op.OrRemove x ids) u (half, there) = elim
-    (head_or_behind (QueryHalf, Asks (ReadIds x ids)) ((UpdateHalf, Does (TakeOut x ids)) ∷ []) (half, Does u) there) [
-      | inl same ↦ absurd (none-some u (ap (λ (a : Half × Act). update_of a.1) same))
-      | inr later ↦ ap op_of (its_update UpdateHalf (TakeOut x ids) half u later)
-    ]
+made_by (op.List (list.Read elements)) u (half, there) = absurd (no_update _ _ half u there)
+made_by (op.List (list.Part elements)) u (half, there) = absurd (no_update _ _ half u there)
+made_by (op.OrRemove x ids) u (half, there) = ap op_of (second_update _ _ half u there)
+made_by (op.List (list.Insert insertion)) u (half, there) = ap op_of (second_update _ _ half u there)
+made_by (op.List (list.Remove x)) u (half, there) = ap op_of (second_update _ _ half u there)
 made_by _ u (half, there) = ap op_of (its_update _ _ half u there)
 
 pub some_pairs : (state : State) → kind_of_state state ≡ OrSet → (ps : List (ℕ × ℕ)) × (state ≡ Pairs ps)

@@ -9,6 +9,7 @@ use Rattle.std.proofs.lemmas.List.Folds.{list_all-append}
 use Rattle.ra_labels.specs.declared.kind.Kind.{Kind}
 use Rattle.ra_labels.specs.declared.operation.Op.{Op}
 use Rattle.ra_labels.specs.declared.operation.Op.TheVariants as op
+use Rattle.ra_labels.specs.declared.list_operation.ListOp.TheVariants as list
 use Rattle.ra_labels.specs.Records.{Records}
 use Rattle.ra_labels.specs.Visibility.{is_update, sees}
 use Rattle.ra_labels.specs.Rewriting.{Half, Whole, QueryHalf, UpdateHalf, Part, acts_of, update_of, Act, Does, Asks, part_of}
@@ -20,7 +21,11 @@ use Rattle.ra_labels.proofs.Members.{head_or_behind, split_at}
 use Rattle.ra_theorems.proofs.SeenLabels.{sees_earlier}
 use Rattle.ra_labels.specs.declared.operation.Op.TheVariants.{Inc, OrRemove}
 use Rattle.ra_labels.specs.declared.operation.Update.TheVariants.{TakeOut}
+use Rattle.ra_labels.specs.declared.operation.Update.TheVariants as updates
+use Rattle.ra_labels.specs.declared.list_operation.ListUpdate.TheVariants as change
 use Rattle.ra_labels.specs.declared.operation.Query.TheVariants.{ReadIds}
+use Rattle.ra_labels.specs.declared.operation.Query.TheVariants as queries
+use Rattle.ra_labels.specs.declared.list_operation.ListQuery.TheVariants as ask
 use Rattle.ra_labels.specs.declared.label.Label.{Label}
 
 -- in a sequence that extends an order, each element stands before those that it must precede
@@ -143,12 +148,17 @@ linearization_by-weaker precedes weaker implies kind records sequence linearizes
   visibility = extends-weaker precedes weaker implies sequence linearizes.visibility;
   updates = linearizes.updates;
   queries = linearizes.queries;
+  order = linearizes.order;
 }
 
 -- an operation is an update exactly if one of its parts is
 pub is_update-acts : (operation : Op)
     → is_update operation ≡ list_any (λ act. is_some (update_of act.1)) (acts_of operation)
 is_update-acts op.Inc = refl
+is_update-acts (op.List (list.Insert insertion)) = refl
+is_update-acts (op.List (list.Remove x)) = refl
+is_update-acts (op.List (list.Read elements)) = refl
+is_update-acts (op.List (list.Part elements)) = refl
 is_update-acts _ = refl
 
 -- ---- concatenated sequences
@@ -189,4 +199,12 @@ pub own_parts : (records : Records) (label : Label) (op : Op)
     → extends (must_precede records) (map (part_of label) (acts_of op) ++ []) ≡ true
 own_parts records label (OrRemove x ids) =
     ap (λ b. (not b && true) && true) (not_own records label (Does (TakeOut x ids)) (Asks (ReadIds x ids)))
+own_parts records label (op.List (list.Insert insertion)) =
+    ap (λ b. (not b && true) && true)
+    (not_own records label (Does (updates.List (change.Put insertion))) (Asks (queries.List (ask.Near insertion))))
+own_parts records label (op.List (list.Remove x)) =
+    ap (λ b. (not b && true) && true)
+    (not_own records label (Does (updates.List (change.Hide x))) (Asks (queries.List (ask.Has x))))
+own_parts records label (op.List (list.Read elements)) = refl
+own_parts records label (op.List (list.Part elements)) = refl
 own_parts records label _ = refl

@@ -7,15 +7,17 @@ use Rattle.std.proofs.lemmas.Option.{none-some, same_Some}
 use Rattle.std.proofs.lemmas.Bool.{cases_eq, cases_order, eq-eqb, ne_eqb, cond-true, cond-false, cond_both, false≢true}
 use Rattle.ra_labels.specs.declared.kind.Kind.{Kind}
 use Rattle.ra_labels.specs.declared.kind.Kind.TheVariants.{Counter}
+use Rattle.ra_labels.specs.declared.kind.Kind.TheVariants as kinds
 use Rattle.ra_labels.specs.declared.command.Command.TheVariants.{Operate, Deliver, Join, Verdict}
 use Rattle.ra_labels.specs.declared.reply.Cause.{Cause}
 use Rattle.ra_labels.specs.declared.reply.Cause.TheVariants.{Order, Update, Query}
 use Rattle.ra_labels.specs.declared.reply.Fault.{Fault}
 use Rattle.ra_labels.specs.Records.{Records, label_count, labels_of, records_to}
+use Rattle.ra_labels.specs.ListHistory.{keeps_an_order}
 use Rattle.ra_labels.specs.Rewriting.{Part, parts_of}
 use Rattle.ra_labels.specs.Linearization.{parts_in, extends_visibility, updates_admitted, queries_admitted}
 use Rattle.ra_labels.specs.NamedOrder.{label_cmp, named_sequence}
-use Rattle.ra_labels.specs.Fault.{Holds, cause_of, fault_of, fault_at, records_before_fault}
+use Rattle.ra_labels.specs.Fault.{Holds, sequence_cause, cause_of, fault_of, fault_at, records_before_fault}
 use Rattle.ra_labels.specs.TheoremTerms.{IsLeastFault}
 use Rattle.ra_labels.specs.HistorySoFar.{NextOperation, next_operation, operate}
 use Rattle.ra_theorems.proofs.SortedLists.{flat_map-sort_by}
@@ -25,79 +27,123 @@ pub IsPermutation-named_sequence : (kind : Kind) (records : Records)
     → IsPermutation (parts_in records) (named_sequence kind records)
 IsPermutation-named_sequence kind records = flat_map-sort_by (label_cmp kind records) parts_of (labels_of records)
 
-abbrev first_failing : Bool → Bool → Bool → Option Cause
-first_failing order update query = if not order then Some Order else if not update then Some Update else if not query
-    then Some Query else None
+abbrev first_failing : Bool → Bool → Bool → Bool → Option Cause
+first_failing order update query kept =
+    option_or
+    (if not order then Some Order else if not update then Some Update else if not query then Some Query else None)
+    (if kept then None else Some Order)
 
--- if there is no cause, all three tests pass
-all_pass : (order update query : Bool) → first_failing order update query ≡ None
-    → (order ≡ true) × (update ≡ true) × (query ≡ true)
-all_pass true true true none = (refl, refl, refl)
-all_pass false update query none = absurd (none-some Order (sym none))
-all_pass true false query none = absurd (none-some Update (sym none))
-all_pass true true false none = absurd (none-some Query (sym none))
+-- if there is no cause, all four tests pass
+all_pass : (order update query kept : Bool) → first_failing order update query kept ≡ None
+    → (order ≡ true) × (update ≡ true) × (query ≡ true) × (kept ≡ true)
+all_pass true true true true none = (refl, refl, refl, refl)
+all_pass false update query kept none = absurd (none-some Order (sym none))
+all_pass true false query kept none = absurd (none-some Update (sym none))
+all_pass true true false kept none = absurd (none-some Query (sym none))
+all_pass true true true false none = absurd (none-some Order (sym none))
 
-no_failure : (order update query : Bool) → order ≡ true → update ≡ true → query ≡ true
-    → first_failing order update query ≡ None
-no_failure order update query o u q = rw (o, u, q)
+no_failure : (order update query kept : Bool) → order ≡ true → update ≡ true → query ≡ true → kept ≡ true
+    → first_failing order update query kept ≡ None
+no_failure order update query kept o u q k = rw (o, u, q, k)
 
 pub holds_from_no_cause : (kind : Kind) (records : Records) → cause_of kind records ≡ None → Holds kind records
 holds_from_no_cause kind records none =
     let sequence = named_sequence kind records in
     let tests = all_pass (extends_visibility records sequence) (updates_admitted kind sequence)
-    (queries_admitted kind records sequence) none in
+    (queries_admitted kind records sequence) (keeps_an_order kind records) none in
     record {
       each_part_once = IsPermutation-named_sequence kind records;
       visibility = tests.0;
       updates = tests.1;
       queries = tests.2;
+      order = tests.3;
     }
 
 pub no_cause_from_holds : (kind : Kind) (records : Records) → Holds kind records → cause_of kind records ≡ None
 no_cause_from_holds kind records holds =
     let sequence = named_sequence kind records in
     no_failure (extends_visibility records sequence) (updates_admitted kind sequence)
-    (queries_admitted kind records sequence) holds.visibility holds.updates holds.queries
+    (queries_admitted kind records sequence) (keeps_an_order kind records) holds.visibility holds.updates holds.queries
+    holds.order
 
--- the cause is the first of the three tests that fails
-order_first : (order update query : Bool) → (first_failing order update query ≡ Some Order) ↔ (order ≡ false)
-order_first false update query = (λ is. refl, λ fails. refl)
-order_first true false query = (λ is. absurd (cc is), λ fails. absurd (cc fails))
-order_first true true false = (λ is. absurd (cc is), λ fails. absurd (cc fails))
-order_first true true true = (λ is. absurd (cc is), λ fails. absurd (cc fails))
+-- the cause is the first of the four tests that fails
+first_or_last : (order update query kept : Bool) → (first_failing order update query kept ≡ Some Order)
+    ↔ ((order ≡ false) ⊎ ((order ≡ true) × (update ≡ true) × (query ≡ true) × (kept ≡ false)))
+first_or_last false update query kept = (λ is. inl refl, λ fails. refl)
+first_or_last true false query kept = (
+  (λ is. absurd (cc is)),
+  (λ fails. elim fails [ inl first ↦ absurd (cc first) | inr last ↦ absurd (cc (last.1)) ]),
+)
+first_or_last true true false kept = (
+  (λ is. absurd (cc is)),
+  (λ fails. elim fails [ inl first ↦ absurd (cc first) | inr last ↦ absurd (cc (last.2)) ]),
+)
+first_or_last true true true false = (λ is. inr (refl, refl, refl, refl), λ fails. refl)
+first_or_last true true true true = (
+  (λ is. absurd (cc is)),
+  (λ fails. elim fails [ inl first ↦ absurd (cc first) | inr last ↦ absurd (cc (last.3)) ]),
+)
 
-update_next : (order update query : Bool) → (first_failing order update query ≡ Some Update)
+update_next : (order update query kept : Bool) → (first_failing order update query kept ≡ Some Update)
     ↔ ((order ≡ true) × (update ≡ false))
-update_next false update query = (λ is. absurd (cc is), λ fails. absurd (cc (fails.0)))
-update_next true false query = (λ is. (refl, refl), λ fails. refl)
-update_next true true false = (λ is. absurd (cc is), λ fails. absurd (cc (fails.1)))
-update_next true true true = (λ is. absurd (cc is), λ fails. absurd (cc (fails.1)))
+update_next false update query kept = (λ is. absurd (cc is), λ fails. absurd (cc (fails.0)))
+update_next true false query kept = (λ is. (refl, refl), λ fails. refl)
+update_next true true false kept = (λ is. absurd (cc is), λ fails. absurd (cc (fails.1)))
+update_next true true true false = (λ is. absurd (cc is), λ fails. absurd (cc (fails.1)))
+update_next true true true true = (λ is. absurd (cc is), λ fails. absurd (cc (fails.1)))
 
-query_last : (order update query : Bool) → (first_failing order update query ≡ Some Query)
+query_next : (order update query kept : Bool) → (first_failing order update query kept ≡ Some Query)
     ↔ ((order ≡ true) × (update ≡ true) × (query ≡ false))
-query_last false update query = (λ is. absurd (cc is), λ fails. absurd (cc (fails.0)))
-query_last true false query = (λ is. absurd (cc is), λ fails. absurd (cc (fails.1)))
-query_last true true false = (λ is. (refl, refl, refl), λ fails. refl)
-query_last true true true = (λ is. absurd (cc is), λ fails. absurd (cc (fails.2)))
+query_next false update query kept = (λ is. absurd (cc is), λ fails. absurd (cc (fails.0)))
+query_next true false query kept = (λ is. absurd (cc is), λ fails. absurd (cc (fails.1)))
+query_next true true false kept = (λ is. (refl, refl, refl), λ fails. refl)
+query_next true true true false = (λ is. absurd (cc is), λ fails. absurd (cc (fails.2)))
+query_next true true true true = (λ is. absurd (cc is), λ fails. absurd (cc (fails.2)))
 
 module _ (kind : Kind) (records : Records) where
   abbrev sequence : List Part
   sequence = named_sequence kind records
 
-  pub cause-order : (cause_of kind records ≡ Some Order) ↔ (extends_visibility records sequence ≡ false)
-  cause-order = order_first (extends_visibility records sequence) (updates_admitted kind sequence)
-      (queries_admitted kind records sequence)
+  pub cause-order : (cause_of kind records ≡ Some Order)
+      ↔ ((extends_visibility records sequence ≡ false)
+      ⊎ ((extends_visibility records sequence ≡ true) × (updates_admitted kind sequence ≡ true)
+      × (queries_admitted kind records sequence ≡ true) × (keeps_an_order kind records ≡ false)))
+  cause-order = first_or_last (extends_visibility records sequence) (updates_admitted kind sequence)
+      (queries_admitted kind records sequence) (keeps_an_order kind records)
 
   pub cause-update : (cause_of kind records ≡ Some Update)
       ↔ ((extends_visibility records sequence ≡ true) × (updates_admitted kind sequence ≡ false))
   cause-update = update_next (extends_visibility records sequence) (updates_admitted kind sequence)
-      (queries_admitted kind records sequence)
+      (queries_admitted kind records sequence) (keeps_an_order kind records)
 
   pub cause-query : (cause_of kind records ≡ Some Query)
       ↔ ((extends_visibility records sequence ≡ true) × (updates_admitted kind sequence ≡ true)
       × (queries_admitted kind records sequence ≡ false))
-  cause-query = query_last (extends_visibility records sequence) (updates_admitted kind sequence)
-      (queries_admitted kind records sequence)
+  cause-query = query_next (extends_visibility records sequence) (updates_admitted kind sequence)
+      (queries_admitted kind records sequence) (keeps_an_order kind records)
+
+-- the named sequence fails no condition exactly if it meets all three
+three_pass : (order update query : Bool)
+    → ((if not order then Some Order else if not update then Some Update else if not query then Some Query else None) ≡ None)
+    ↔ ((order ≡ true) × (update ≡ true) × (query ≡ true))
+three_pass true true true = (λ none. (refl, refl, refl), λ all. refl)
+three_pass false update query = (λ none. absurd (none-some Order (sym none)), λ all. absurd (cc (all.0)))
+three_pass true false query = (λ none. absurd (none-some Update (sym none)), λ all. absurd (cc (all.1)))
+three_pass true true false = (λ none. absurd (none-some Query (sym none)), λ all. absurd (cc (all.2)))
+
+pub sequence_cause-none : (kind : Kind) (records : Records) → (sequence_cause kind records ≡ None)
+    ↔ ((extends_visibility records (named_sequence kind records) ≡ true)
+    × (updates_admitted kind (named_sequence kind records) ≡ true)
+    × (queries_admitted kind records (named_sequence kind records) ≡ true))
+sequence_cause-none kind records =
+    three_pass (extends_visibility records (named_sequence kind records))
+    (updates_admitted kind (named_sequence kind records)) (queries_admitted kind records (named_sequence kind records))
+
+-- only of a list it is asked whether an order explains it
+pub order-only_of_lists : (kind : Kind) (records : Records) → ¬ (kind ≡ kinds.List) → keeps_an_order kind records ≡ true
+order-only_of_lists kinds.List records other = absurd (other refl)
+order-only_of_lists Counter records other = refl
+order-only_of_lists _ records other = refl
 
 -- the empty records hold
 cause_of-nil : (kind : Kind) → cause_of kind [] ≡ None

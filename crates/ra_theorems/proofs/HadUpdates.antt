@@ -12,9 +12,9 @@ use Rattle.std.proofs.lemmas.List.Sorted.{Contains-permutation, IsPermutation-sy
 use Rattle.ra_labels.specs.declared.kind.Kind.{Kind}
 use Rattle.ra_labels.specs.declared.operation.Op.{Op}
 use Rattle.ra_labels.specs.declared.operation.Op.TheVariants as op
+use Rattle.ra_labels.specs.declared.list_operation.ListOp.TheVariants as list
 use Rattle.ra_labels.specs.declared.operation.Update.{Update}
-use Rattle.ra_labels.specs.declared.operation.Update.TheVariants.{TakeOut}
-use Rattle.ra_labels.specs.declared.operation.Query.TheVariants.{ReadIds}
+use Rattle.ra_labels.specs.declared.operation.Query.{Query}
 use Rattle.ra_labels.specs.declared.label.Label.{Label}
 use Rattle.ra_labels.specs.declared.command.Command.TheVariants.{Deliver}
 use Rattle.ra_labels.specs.Records.{Records, label_count, labels_of}
@@ -43,13 +43,23 @@ one_act label half act which u there = elim (head_or_behind (half, act) [] (whic
   | inr none ↦ absurd (omega (arith, none.1))
 ]
 
+-- an operation with a query half and an update half has exactly the update of the latter
+two_acts : (label : Label) (query : Query) (v : Update) (which : Half) (u : Update)
+    → Contains {X = Half × Act} ((QueryHalf, Asks query) ∷ (UpdateHalf, Does v) ∷ []) (which, Does u)
+    → updates_of (map (part_of label) ((QueryHalf, Asks query) ∷ (UpdateHalf, Does v) ∷ [])) ≡ u ∷ []
+two_acts label query v which u there =
+    elim (head_or_behind (QueryHalf, Asks query) ((UpdateHalf, Does v) ∷ []) (which, Does u) there) [
+      | inl same ↦ let wrong : Asks query ≡ Does u = ap (λ (a : Half × Act). a.1) same in absurd (cc wrong)
+      | inr later ↦ one_act label UpdateHalf (Does v) which u later
+    ]
+
 pub makes_one : (label : Label) (operation : Op) (u : Update) → HasUpdate operation u
     → updates_of (map (part_of label) (acts_of operation)) ≡ u ∷ []
-makes_one label (op.OrRemove x ids) u (half, there) = elim
-    (head_or_behind (QueryHalf, Asks (ReadIds x ids)) ((UpdateHalf, Does (TakeOut x ids)) ∷ []) (half, Does u) there) [
-      | inl same ↦ let wrong : Asks (ReadIds x ids) ≡ Does u = ap (λ (a : Half × Act). a.1) same in absurd (cc wrong)
-      | inr later ↦ one_act label UpdateHalf (Does (TakeOut x ids)) half u later
-    ]
+makes_one label (op.OrRemove x ids) u (half, there) = two_acts label _ _ half u there
+makes_one label (op.List (list.Insert insertion)) u (half, there) = two_acts label _ _ half u there
+makes_one label (op.List (list.Remove x)) u (half, there) = two_acts label _ _ half u there
+makes_one label (op.List (list.Read elements)) u (half, there) = one_act label _ _ half u there
+makes_one label (op.List (list.Part elements)) u (half, there) = one_act label _ _ half u there
 makes_one label _ u (half, there) = one_act label _ _ half u there
 
 pub any_at : {A : Type 0} (p : A → Bool) (xs : List A) (y : A) → Contains xs y → p y ≡ true → list_any p xs ≡ true

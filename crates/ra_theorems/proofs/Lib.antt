@@ -36,6 +36,10 @@ pub mod SettledUpdates
 pub mod WaitingLabels
 pub mod LastUpdates
 pub mod CountedParts
+pub mod FilterMaps
+pub mod ListUpdates
+pub mod AmongParts
+pub mod ListsInAnyOrder
 pub mod AnyOrder
 pub mod Arrivals
 pub mod NewLabels

@@ -11,7 +11,7 @@ use Rattle.std.proofs.lemmas.List.Elements.{filter-append, filter_map-append}
 use Rattle.std.proofs.lemmas.List.Folds.{list_all-append}
 use Rattle.std.proofs.lemmas.List.Sums.{fold-append}
 use Rattle.ra_labels.proofs.Comparisons.{eqb-comm}
-use Rattle.ra_labels.specs.declared.kind.Kind.TheVariants.{Register, LwwSet, Rga}
+use Rattle.ra_labels.specs.declared.kind.Kind.TheVariants.{Register, LwwSet}
 use Rattle.ra_labels.specs.declared.operation.Update.{Update}
 use Rattle.ra_labels.specs.declared.operation.Update.TheVariants.{Write, LwwAdd, LwwRemove}
 use Rattle.ra_labels.specs.Lists.{is_among}
@@ -84,10 +84,9 @@ pub writes-late : (first later : List Update) (value last : ℕ)
     → state_after Register (first ++ Write value ∷ later)
     ≡ then_step (state_after Register (first ++ later)) (Write last)
 writes-late first later value last is found =
-    let no_rga : ¬ (Register ≡ Rga) = λ same. cc same in
     let of_kind = λ (u : Update). is_kind Register (kind_of_update u) in
-    let all = sym (admitted-of_kind Register (first ++ Write value ∷ later) no_rga) ∙ is in
-    let others = admitted-of_kind Register (first ++ later) no_rga
+    let all = sym (admitted-of_kind Register (first ++ Write value ∷ later) refl) ∙ is in
+    let others = admitted-of_kind Register (first ++ later) refl
     ∙ (kind_without of_kind first later (Write value) all).1 in
     writes-last (first ++ Write value ∷ later) is
     ∙ ap (λ v. Some (Written v))
@@ -224,13 +223,12 @@ pub set-late : (first later : List Update) (update last : Update) (x : ℕ)
     → last_on x (update ∷ later) ≡ Some last
     → state_after LwwSet (first ++ update ∷ later) ≡ then_step (state_after LwwSet (first ++ later)) last
 set-late first later update last x is acts found =
-    let no_rga : ¬ (LwwSet ≡ Rga) = λ same. cc same in
     let of_kind = λ (u : Update). is_kind LwwSet (kind_of_update u) in
-    let all = sym (admitted-of_kind LwwSet (first ++ update ∷ later) no_rga) ∙ is in
+    let all = sym (admitted-of_kind LwwSet (first ++ update ∷ later) refl) ∙ is in
     let others = (kind_without of_kind first later update all).1 in
     let one : list_all of_kind (last ∷ []) ≡ true =
     and_from (of_kind last) true (of_a_set x last (last_on-acts x (update ∷ later) last found).1) refl in
-    let admitted = admitted-of_kind LwwSet ((first ++ later) ++ last ∷ []) no_rga
+    let admitted = admitted-of_kind LwwSet ((first ++ later) ++ last ∷ []) refl
     ∙ list_all-append of_kind (first ++ later) (last ∷ [])
     ∙ and_from (list_all of_kind (first ++ later)) (list_all of_kind (last ∷ [])) others one in
     set-same (first ++ update ∷ later) ((first ++ later) ++ last ∷ []) is admitted

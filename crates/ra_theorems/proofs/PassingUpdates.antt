@@ -19,7 +19,7 @@ use Rattle.ra_labels.specs.Specification.{Listed, state_after, is_admitted}
 use Rattle.ra_labels.specs.Linearization.{updates_admitted}
 use Rattle.ra_labels.specs.NamedOrder.{named_labels, named_sequence}
 use Rattle.ra_labels.specs.Answer.{is_kind}
-use Rattle.ra_labels.specs.TheoremTerms.{kind_of_update, elements_in}
+use Rattle.ra_labels.specs.TheoremTerms.{kind_of_update, elements_in, admits_all}
 use Rattle.ra_labels.specs.Insertion.{updates_among, updates_passing, or_label, HasUpdate}
 use Rattle.ra_labels.specs.Late.{kept_entries}
 use Rattle.ra_labels.specs.Pending.{is_present_element, shown_by, dependency_of, NonePending}
@@ -242,8 +242,8 @@ pub each_passes : (labels : List Label) → updates_among each labels ≡ update
 each_passes labels =
     ap updates_of (filter_all (λ (p : Part). each p.label.number) (flat_map parts_of labels) (λ p there. refl))
 
--- for a kind other than RGA, the passing updates are admitted if all updates are
-pub passing-of_kind : (kind : Kind) (records : Records) (passes : ℕ → Bool) → ¬ (kind ≡ Rga)
+-- for a kind whose states admit all its updates, the passing updates are admitted if all updates are
+pub passing-of_kind : (kind : Kind) (records : Records) (passes : ℕ → Bool) → admits_all kind ≡ true
     → updates_admitted kind (named_sequence kind records) ≡ true
     → is_admitted kind (updates_passing kind records passes) ≡ true
 passing-of_kind kind records passes other admitted =

@@ -11,6 +11,7 @@ use Rattle.std.proofs.lemmas.List.Sorted.{All-permutation, Contains-permutation,
 use Rattle.std.proofs.lemmas.Map.Keys.{IsDistinct-IsPermutation}
 use Rattle.ra_labels.specs.declared.kind.Kind.{Kind}
 use Rattle.ra_labels.specs.declared.kind.Kind.TheVariants.{Counter, OrSet}
+use Rattle.ra_labels.specs.declared.kind.Kind.TheVariants as kinds
 use Rattle.ra_labels.specs.declared.label.Stamp.{Stamp}
 use Rattle.ra_labels.specs.declared.label.Label.{Label}
 use Rattle.ra_labels.specs.declared.command.Command.TheVariants.{Operate}
@@ -235,3 +236,6 @@ counter-extends records = execution-extends Counter records (λ label. refl)
 
 pub or_set-extends : (records : Records) → extends_visibility records (named_sequence OrSet records) ≡ true
 or_set-extends records = execution-extends OrSet records (λ label. refl)
+
+pub list-extends : (records : Records) → extends_visibility records (named_sequence kinds.List records) ≡ true
+list-extends records = execution-extends kinds.List records (λ label. refl)

@@ -1,33 +1,43 @@
 -- Lemmas on the kinds of states, updates and queries.
-use Rattle.std.proofs.Common.{◌≡◌, true, false, Option, Some, None, refl, sym, subst, inl, inr}
+use Rattle.std.proofs.Common.{◌≡◌, true, false, Option, Some, None, option_map, refl, sym, subst, inl, inr}
 use Rattle.std.specs.Prelude.{◌⊎◌, not, ◌==◌, ◌&&◌}
 use Rattle.std.specs.List.{list_all}
 use Rattle.std.proofs.lemmas.Bool.{false≢true, cond_both}
 use Rattle.ra_labels.specs.declared.kind.Kind.{Kind}
-use Rattle.ra_labels.specs.declared.kind.Kind.TheVariants.{Counter, Rga}
+use Rattle.ra_labels.specs.declared.kind.Kind.TheVariants.{Counter}
 use Rattle.ra_labels.specs.declared.operation.Op.{Op}
 use Rattle.ra_labels.specs.declared.operation.Op.TheVariants as op
+use Rattle.ra_labels.specs.declared.list_operation.ListOp.TheVariants as list
+use Rattle.ra_labels.specs.declared.list_operation.ListUpdate.{ListUpdate}
 use Rattle.ra_labels.specs.declared.operation.Update.{Update}
 use Rattle.ra_labels.specs.declared.operation.Update.TheVariants.{Inc, Dec, Write, LwwAdd, LwwRemove, OrAdd, TakeOut, After, RgaRemove}
+use Rattle.ra_labels.specs.declared.operation.Update.TheVariants as updates
 use Rattle.ra_labels.specs.declared.operation.Query.{Query}
 use Rattle.ra_labels.specs.declared.operation.Query.TheVariants.{Count, Last, LwwRead, ReadIds, OrRead, RgaRead}
+use Rattle.ra_labels.specs.declared.operation.Query.TheVariants as queries
 use Rattle.ra_labels.specs.Lists.{is_in_list, insert_after, hide}
-use Rattle.ra_labels.specs.Specification.{State, Number, Written, Members, Pairs, Listed, initial_state, step_of, answers}
+use Rattle.ra_labels.specs.FreeList.{ListState, list_step}
+use Rattle.ra_labels.specs.Specification.{State, Number, Written, Members, Pairs, Listed, Listing, initial_state, step_of, answers}
 use Rattle.ra_labels.specs.Rewriting.{acts_of}
 use Rattle.ra_labels.specs.Answer.{kind_of, is_kind}
-use Rattle.ra_labels.specs.TheoremTerms.{kind_of_state, kind_of_update, kind_of_query, kind_of_act}
+use Rattle.ra_labels.specs.TheoremTerms.{kind_of_state, kind_of_update, kind_of_query, kind_of_act, admits_all}
 
 pub start_kind : (kind : Kind) → kind_of_state (initial_state kind) ≡ kind
 start_kind Counter = refl
 start_kind _ = refl
 
 -- what a step implies about kinds: if it exists, the update and the next state have the state's kind; if it does not,
--- the update has another kind or the state is that of an RGA
+-- the update has another kind, or not every state of the kind admits each of its updates
 abbrev pub StepKnown : State → Update → Option State → Type 0
 StepKnown state update None = (is_kind (kind_of_state state) (kind_of_update update) ≡ false)
-    ⊎ (kind_of_state state ≡ Rga)
+    ⊎ (admits_all (kind_of_state state) ≡ false)
 StepKnown state update (Some next) = (kind_of_state next ≡ kind_of_state state)
     × (kind_of_update update ≡ kind_of_state state)
+
+listing-known : (state : ListState) (change : ListUpdate) (next : Option ListState)
+    → StepKnown (Listing state) (updates.List change) (option_map Listing next)
+listing-known state change None = inr refl
+listing-known state change (Some next) = (refl, refl)
 
 pub step-known : (state : State) (update : Update) → StepKnown state update (step_of state update)
 step-known (Number n) Inc = (refl, refl)
@@ -43,6 +53,7 @@ step-known (Listed list) (After anchor x) =
 step-known (Listed list) (RgaRemove x) =
     cond_both (is_in_list x list && not (x == 0)) (Some (Listed (hide x list))) None
     (StepKnown (Listed list) (RgaRemove x)) (λ is. (refl, refl)) (λ not_so. inr refl)
+step-known (Listing state) (updates.List change) = listing-known state change (list_step state change)
 step-known _ _ = inl refl
 
 pub step-kind : (state : State) (update : Update) (next : State) → step_of state update ≡ Some next
@@ -58,10 +69,15 @@ answers-of_kind (Members xs) (LwwRead asked) other = absurd (false≢true (sym o
 answers-of_kind (Pairs pairs) (ReadIds x ids) other = absurd (false≢true (sym other))
 answers-of_kind (Pairs pairs) (OrRead asked) other = absurd (false≢true (sym other))
 answers-of_kind (Listed list) (RgaRead asked) other = absurd (false≢true (sym other))
+answers-of_kind (Listing state) (queries.List question) other = absurd (false≢true (sym other))
 answers-of_kind _ _ other = refl
 
 -- the parts of an operation have its kind
 pub acts-of_kind : (operation : Op)
     → list_all (λ act. is_kind (kind_of operation) (kind_of_act act.1)) (acts_of operation) ≡ true
 acts-of_kind op.Inc = refl
+acts-of_kind (op.List (list.Insert insertion)) = refl
+acts-of_kind (op.List (list.Remove x)) = refl
+acts-of_kind (op.List (list.Read elements)) = refl
+acts-of_kind (op.List (list.Part elements)) = refl
 acts-of_kind _ = refl

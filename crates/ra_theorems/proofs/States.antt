@@ -10,14 +10,14 @@ use Rattle.std.proofs.lemmas.Bool.{false≢true, and_parts, and_from, eqb-true, 
 use Rattle.std.proofs.lemmas.Option.{none-some, same_Some}
 use Rattle.std.proofs.lemmas.List.Sums.{fold-append}
 use Rattle.ra_labels.specs.declared.kind.Kind.{Kind}
-use Rattle.ra_labels.specs.declared.kind.Kind.TheVariants.{Register, LwwSet, Rga, Counter}
+use Rattle.ra_labels.specs.declared.kind.Kind.TheVariants.{Register, LwwSet, Counter}
 use Rattle.ra_labels.specs.declared.operation.Update.{Update}
 use Rattle.ra_labels.specs.declared.operation.Update.TheVariants.{Inc, Dec, Write, LwwAdd, LwwRemove}
 use Rattle.ra_labels.specs.declared.operation.Query.TheVariants.{Last, LwwRead}
 use Rattle.ra_labels.specs.Lists.{is_among, rises}
 use Rattle.ra_labels.specs.Specification.{State, Number, Written, Members, initial_state, step_of, answers, state_after, is_admitted}
 use Rattle.ra_labels.specs.Answer.{is_kind}
-use Rattle.ra_labels.specs.TheoremTerms.{kind_of_state, kind_of_update, acts_on, NoneActsOn}
+use Rattle.ra_labels.specs.TheoremTerms.{kind_of_state, kind_of_update, acts_on, NoneActsOn, admits_all}
 use Rattle.ra_labels.proofs.InLists.{among-exactly, same-exactly, bool_same}
 use Rattle.ra_labels.proofs.SameKind.{kind_itself}
 use Rattle.ra_theorems.specs.Counters.{increments_in, decrements_in}
@@ -60,8 +60,8 @@ pub admitted-only : (kind : Kind) (updates : List Update) → is_admitted kind u
     → list_all (λ update. is_kind kind (kind_of_update update)) updates ≡ true
 admitted-only kind updates is = only_kind (initial_state kind) kind updates (start_kind kind) is
 
--- and, for a kind other than RGA, whenever they are
-goes : (state : State) (update : Update) (updates : List Update) (o : Option State) → ¬ (kind_of_state state ≡ Rga)
+-- and, for a kind whose states admit all its updates, whenever they are
+goes : (state : State) (update : Update) (updates : List Update) (o : Option State) → admits_all (kind_of_state state) ≡ true
     → StepKnown state update o
     → ((next : State) → kind_of_state next ≡ kind_of_state state
     → list_all (λ u. is_kind (kind_of_state state) (kind_of_update u)) updates ≡ true
@@ -73,22 +73,22 @@ goes state update updates None other (inl wrong) rest is =
     (sym wrong
     ∙ (and_parts (is_kind (kind_of_state state) (kind_of_update update))
     (list_all (λ u. is_kind (kind_of_state state) (kind_of_update u)) updates) is).0))
-goes state update updates None other (inr rga) rest is = absurd (other rga)
+goes state update updates None other (inr not_all) rest is = absurd (false≢true (sym not_all ∙ other))
 goes state update updates (Some next) other known rest is =
     rest next known.0
     (and_parts (is_kind (kind_of_state state) (kind_of_update update))
     (list_all (λ u. is_kind (kind_of_state state) (kind_of_update u)) updates) is).1
 
-goes_on : (state : State) (kind : Kind) (updates : List Update) → ¬ (kind ≡ Rga) → kind_of_state state ≡ kind
+goes_on : (state : State) (kind : Kind) (updates : List Update) → admits_all kind ≡ true → kind_of_state state ≡ kind
     → list_all (λ update. is_kind kind (kind_of_update update)) updates ≡ true
     → is_some (state_from (Some state) updates) ≡ true
 goes_on state kind [] other of is = refl
 goes_on state kind (update ∷ updates) other of is =
-    goes state update updates (step_of state update) (λ rga. other (sym of ∙ rga)) (step-known state update)
-    (λ next same all. goes_on next (kind_of_state state) updates (λ rga. other (sym of ∙ rga)) same all)
+    goes state update updates (step_of state update) (ap admits_all of ∙ other) (step-known state update)
+    (λ next same all. goes_on next (kind_of_state state) updates (ap admits_all of ∙ other) same all)
     (subst (λ k. list_all (λ u. is_kind k (kind_of_update u)) (update ∷ updates) ≡ true) (sym of) is)
 
-pub admitted-of_kind : (kind : Kind) (updates : List Update) → ¬ (kind ≡ Rga)
+pub admitted-of_kind : (kind : Kind) (updates : List Update) → admits_all kind ≡ true
     → is_admitted kind updates ≡ list_all (λ update. is_kind kind (kind_of_update update)) updates
 admitted-of_kind kind updates other =
     bool_same (is_admitted kind updates) (list_all (λ update. is_kind kind (kind_of_update update)) updates)

@@ -279,6 +279,8 @@ pub use Rattle.ra_theorems.proofs.Extensions.{linearization-stands as linearizat
 pub use Rattle.ra_theorems.proofs.Extensions.{is_update-acts as update_iff_part_is_update}
 -- theorems::fault
 pub use Rattle.ra_theorems.proofs.Faults.{cause-order as cause_is_first_failed-order}
+pub use Rattle.ra_theorems.proofs.Faults.{order-only_of_lists as order_only_of_lists}
+pub use Rattle.ra_theorems.proofs.Faults.{sequence_cause-none as sequence_cause_none_iff}
 pub use Rattle.ra_theorems.proofs.Faults.{cause-update as cause_is_first_failed-update}
 pub use Rattle.ra_theorems.proofs.Faults.{cause-query as cause_is_first_failed-query}
 pub use Rattle.ra_theorems.proofs.Faults.{holds_from_no_fault as fault_none_implies_holds, fault_stays as fault_persists}

@@ -1,7 +1,8 @@
--- The kinds whose updates can be in any order that respects visibility, and the condition that a violation is final.
+-- The kinds for which any order that respects visibility serves as well, and the condition that a violation is final.
 use Rattle.std.specs.Prelude.{ℕ, Bool, true, false, ◌&&◌, List, Contains, filter, is_some, IsTrue, IsPermutation}
 use Rattle.ra_labels.specs.declared.kind.Kind.{Kind}
 use Rattle.ra_labels.specs.declared.kind.Kind.TheVariants.{Counter, Register, LwwSet, OrSet, Rga}
+use Rattle.ra_labels.specs.declared.kind.Kind.TheVariants as kinds
 use Rattle.ra_labels.specs.Records.{Records, records_to}
 use Rattle.ra_labels.specs.declared.operation.Update.{Update}
 use Rattle.ra_labels.specs.declared.operation.Update.TheVariants.{OrAdd}
@@ -9,13 +10,14 @@ use Rattle.ra_labels.specs.Rewriting.{Part, update_of}
 use Rattle.ra_labels.specs.TheoremTerms.{NoneRemovesPair}
 use Rattle.ra_labels.specs.Linearization.{parts_in, is_visible_to, extends, IsRaLinearizationBy}
 
--- `true` if the updates of the kind can be in any order that respects visibility
+-- `true` if the named sequence linearizes the records wherever some sequence does by visibility alone
 abbrev pub is_of_any_order : Kind → Bool
 is_of_any_order Counter = true
 is_of_any_order Register = false
 is_of_any_order LwwSet = false
 is_of_any_order OrSet = true
 is_of_any_order Rga = false
+is_of_any_order kinds.List = true
 
 -- the updates of the labels that pass the test
 abbrev pub updates_that_pass : Records → (ℕ → Bool) → List Part

@@ -3,7 +3,7 @@ use Rattle.std.proofs.Common.{◌≡◌, ℕ, Bool, true, false, List, [], ◌�
 use Rattle.std.specs.Prelude.{Contains, All, map, take, drop, unwrap_or}
 use Rattle.std.specs.List.{insert}
 use Rattle.std.specs.List.Sorted.{IsPartitionedBy}
-use Rattle.std.proofs.lemmas.Bool.{cases_Bool}
+use Rattle.std.proofs.lemmas.Bool.{false≢true, cases_Bool}
 use Rattle.std.proofs.lemmas.List.{take-map, drop-map, map-append}
 use Rattle.std.proofs.lemmas.List.Elements.{All-weaker, All-contains_itself, All-head, All-tail}
 use Rattle.ra_labels.specs.declared.operation.Op.{Op}
@@ -57,6 +57,7 @@ carrier_updates (op.OrRead list) carries = carries
 carrier_updates (op.After anchor x) carries = refl
 carrier_updates (op.RgaRemove x) carries = refl
 carrier_updates (op.RgaRead list) carries = carries
+carrier_updates (op.List operation) carries = absurd (false≢true carries)
 
 stamp_carries : (records : Records) (by : ℕ) (operation : Op) (clock : Option ℕ) (stamp : Stamp)
     → (carries_stamp operation ≡ false → clock ≡ None)

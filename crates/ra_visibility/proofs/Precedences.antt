@@ -5,6 +5,7 @@ use Rattle.std.specs.Option.{option_map_or}
 use Rattle.std.proofs.lemmas.Bool.{and_from, or_cases, or_left, or_right, eq-eqb, le-ltb, lt-ltb, false_from_ne_true}
 use Rattle.ra_labels.specs.declared.operation.Op.{Op}
 use Rattle.ra_labels.specs.declared.operation.Op.TheVariants as op
+use Rattle.ra_labels.specs.declared.list_operation.ListOp.TheVariants as list
 use Rattle.ra_labels.specs.declared.label.Label.{Label}
 use Rattle.ra_labels.specs.Records.{Records, label_count, labels_of}
 use Rattle.ra_labels.specs.Visibility.{sees, is_update, is_update_at}
@@ -24,6 +25,20 @@ parts_extend records label (op.OrRemove x ids) = rw (
   eq-eqb label.replica label.replica refl,
   eq-eqb label.number label.number refl,
 ) refl
+parts_extend records label (op.List (list.Insert insertion)) = rw (
+  sees_earlier_updates-itself records label.number,
+  le-ltb label.number label.number (omega arith),
+  eq-eqb label.replica label.replica refl,
+  eq-eqb label.number label.number refl,
+) refl
+parts_extend records label (op.List (list.Remove x)) = rw (
+  sees_earlier_updates-itself records label.number,
+  le-ltb label.number label.number (omega arith),
+  eq-eqb label.replica label.replica refl,
+  eq-eqb label.number label.number refl,
+) refl
+parts_extend records label (op.List (list.Read elements)) = refl
+parts_extend records label (op.List (list.Part elements)) = refl
 parts_extend records label _ = refl
 
 -- an existing label that is an update has a part that is one

@@ -9,7 +9,6 @@ use Rattle.std.proofs.lemmas.List.Folds.{list_all-append}
 use Rattle.std.proofs.lemmas.List.Elements.{filter_map-append}
 use Rattle.std.proofs.lemmas.Grind.{flat_map-append}
 use Rattle.ra_labels.specs.declared.kind.Kind.{Kind}
-use Rattle.ra_labels.specs.declared.kind.Kind.TheVariants.{Rga}
 use Rattle.ra_labels.specs.declared.operation.Update.{Update}
 use Rattle.ra_labels.specs.declared.operation.Query.{Query}
 use Rattle.ra_labels.specs.declared.label.Label.{Label}
@@ -19,9 +18,9 @@ use Rattle.ra_labels.specs.Rewriting.{Part, Half, Act, Does, Asks, acts_of, part
 use Rattle.ra_labels.specs.Specification.{State, answers, state_after}
 use Rattle.ra_labels.specs.Linearization.{visible_updates, extends_visibility, updates_admitted, queries_admitted}
 use Rattle.ra_labels.specs.NamedOrder.{named_labels, named_sequence}
-use Rattle.ra_labels.specs.Fault.{Holds, cause_of}
+use Rattle.ra_labels.specs.Fault.{Holds, sequence_cause}
 use Rattle.ra_labels.specs.Answer.{kind_of, is_kind}
-use Rattle.ra_labels.specs.TheoremTerms.{IsAnsweredAfter, kind_of_update, kind_of_act}
+use Rattle.ra_labels.specs.TheoremTerms.{IsAnsweredAfter, kind_of_update, kind_of_act, admits_all}
 use Rattle.ra_labels.specs.Insertion.{delivered_updates, OwnQueriesAnswered}
 use Rattle.ra_labels.proofs.Members.{head_or_behind, at_head, behind_head, reached, from_where}
 use Rattle.ra_labels.proofs.InLists.{bool_same}
@@ -105,7 +104,7 @@ cause_by_tests : (kind : Kind) (records : Records) (updates queries : Bool)
     → extends_visibility records (named_sequence kind records) ≡ true
     → updates_admitted kind (named_sequence kind records) ≡ updates
     → queries_admitted kind records (named_sequence kind records) ≡ queries
-    → cause_of kind records ≡ cond (not updates) (Some cause.Update) (cond (not queries) (Some cause.Query) None)
+    → sequence_cause kind records ≡ cond (not updates) (Some cause.Update) (cond (not queries) (Some cause.Query) None)
 cause_by_tests kind records updates queries e u q = rw (e, u, q) refl
 
 swapped : (b : Bool) → cond (not b) (Some cause.Query) None ≡ cond b None (Some cause.Query)
@@ -117,7 +116,7 @@ swapped false = refl
 pub cause_where_it_fits : (kind : Kind) (records : Records) (next : NextOperation) (admitted : Bool) → Holds kind records
     → let now = operate next ∷ records in extends_visibility now (named_sequence kind now) ≡ true
     → updates_admitted kind (named_sequence kind now) ≡ admitted
-    → cause_of kind now ≡ cond (not admitted) (Some cause.Update) (cause_in (state_after kind (delivered_updates kind records next.by)) (acts_of next.op))
+    → sequence_cause kind now ≡ cond (not admitted) (Some cause.Update) (cause_in (state_after kind (delivered_updates kind records next.by)) (acts_of next.op))
 cause_where_it_fits kind records next admitted holds extended is =
     let now = operate next ∷ records in
     let asked = list_all (answers_in (state_after kind (delivered_updates kind records next.by))) (queries_in (acts_of next.op)) in
@@ -151,9 +150,9 @@ are_of-both kind xs ys =
     ap (are_of kind) (updates_by-both xs ys) ∙ list_all-append (λ update. is_kind kind (kind_of_update update)) (updates_by xs) (updates_by ys)
 
 -- for a kind other than RGA, the updates of all labels stay admitted with a new label of the kind
-pub still_admitted : (kind : Kind) (records : Records) (next : NextOperation) → ¬ (kind ≡ Rga) → Holds kind records
+pub still_admitted : (kind : Kind) (records : Records) (next : NextOperation) → admits_all kind ≡ true → Holds kind records
     → is_kind kind (kind_of next.op) ≡ true → updates_admitted kind (named_sequence kind (operate next ∷ records)) ≡ true
-still_admitted kind records next not_rga holds of_kind =
+still_admitted kind records next admits holds of_kind =
     let label = label_of records next in
     let (before, behind, was, is) = new_label_preserves_order kind records next in
     let all = kind_updates_admitted-only kind (updates_by (named_labels kind records)) holds.updates in
@@ -167,4 +166,4 @@ still_admitted kind records next not_rga holds of_kind =
     ap (λ ls. are_of kind (updates_by ls)) is
     ∙ are_of-both kind before (label ∷ behind)
     ∙ and_from (are_of kind (updates_by before)) (are_of kind (updates_by (label ∷ behind))) two.0 later in
-    kind_updates_admitted-exactly kind (updates_by (named_labels kind (operate next ∷ records))) not_rga ∙ every
+    kind_updates_admitted-exactly kind (updates_by (named_labels kind (operate next ∷ records))) admits ∙ every

@@ -11,18 +11,22 @@ use Rattle.ra_labels.specs.declared.command.Command.TheVariants.{Deliver}
 use Rattle.ra_labels.specs.Records.{label_count, stamp_at}
 use Rattle.ra_labels.specs.Rewriting.{Half, Act, acts_of}
 use Rattle.ra_labels.specs.Specification.{State}
-use Rattle.ra_labels.specs.Fault.{Holds, cause_of}
+use Rattle.ra_labels.specs.Fault.{Holds, sequence_cause}
+use Rattle.ra_labels.specs.TheoremTerms.{admits_all}
 use Rattle.ra_labels.specs.HistorySoFar.{History, history_of, history_with, NextOperation, operate}
 use Rattle.ra_theorems.proofs.TheoremIndex.{delivered_are_updates-there}
 use Rattle.ra_witness.specs.declared.commuting.Commuting as commuting
 use Rattle.ra_witness.specs.declared.overriding.Overriding as overriding
 use Rattle.ra_witness.specs.declared.rga.Rga as rga
+use Rattle.ra_witness.specs.declared.kept_list.KeptList as kept_list
 use Rattle.ra_witness.specs.declared.effects.Effects.{Effects}
 use Rattle.ra_witness.specs.declared.effects.Effects.TheVariants.{Commuting, Overriding, Rga}
+use Rattle.ra_witness.specs.declared.effects.Effects.TheVariants as form
 use Rattle.ra_witness.specs.Labels.{update_in, cause_in}
 use Rattle.ra_witness.specs.States.{state_at, update_at, states_after, CanStep}
 use Rattle.ra_witness.specs.Standing.{AreStatesOf}
 use Rattle.ra_witness.specs.Rga.{IsRgaOf}
+use Rattle.ra_witness.specs.KeptList.{IsListOf}
 use Rattle.ra_witness.specs.Offered.{IsOffered, IsDelivered}
 use Rattle.ra_witness.specs.Effects.{IsCommutingOf, IsOverridingOf, AreEffectsOfForm, AreEffectsOf}
 use Rattle.ra_witness.proofs.NumberedLabels.{updates_counted}
@@ -45,6 +49,9 @@ module _ (k : Effects) (past : History) (stands : AreEffectsOf k past) where
   pub is_overriding : (kept : overriding.Overriding) → k ≡ Overriding kept → IsOverridingOf kept past
   is_overriding kept is = subst (λ x. AreEffectsOfForm x past) is stands.form
 
+  pub is_list : (kept : kept_list.KeptList) → k ≡ form.List kept → (past.kind ≡ variant.List) × IsListOf kept past.initial_replicas past.records
+  is_list kept is = subst (λ x. AreEffectsOfForm x past) is stands.form
+
   pub is_rga : (kept : rga.Rga) → k ≡ Rga kept → (past.kind ≡ variant.Rga) × IsRgaOf kept past.initial_replicas past.records
   is_rga kept is = subst (λ x. AreEffectsOfForm x past) is stands.form
 
@@ -56,6 +63,22 @@ pub not_rga-overriding : (kind : Kind) → (kind ≡ variant.Register) ⊎ (kind
 not_rga-overriding kind (inl is) rga = let e : variant.Register ≡ variant.Rga = sym is ∙ rga in cc (e)
 not_rga-overriding kind (inr is) rga = let e : variant.LwwSet ≡ variant.Rga = sym is ∙ rga in cc (e)
 
+pub not_list-commuting : (kind : Kind) → (kind ≡ variant.Counter) ⊎ (kind ≡ variant.OrSet) → ¬ (kind ≡ variant.List)
+not_list-commuting kind (inl is) other = let e : variant.Counter ≡ variant.List = sym is ∙ other in cc (e)
+not_list-commuting kind (inr is) other = let e : variant.OrSet ≡ variant.List = sym is ∙ other in cc (e)
+
+pub not_list-overriding : (kind : Kind) → (kind ≡ variant.Register) ⊎ (kind ≡ variant.LwwSet) → ¬ (kind ≡ variant.List)
+not_list-overriding kind (inl is) other = let e : variant.Register ≡ variant.List = sym is ∙ other in cc (e)
+not_list-overriding kind (inr is) other = let e : variant.LwwSet ≡ variant.List = sym is ∙ other in cc (e)
+
+pub admits-commuting : (kind : Kind) → (kind ≡ variant.Counter) ⊎ (kind ≡ variant.OrSet) → admits_all kind ≡ true
+admits-commuting kind (inl is) = ap admits_all is
+admits-commuting kind (inr is) = ap admits_all is
+
+pub admits-overriding : (kind : Kind) → (kind ≡ variant.Register) ⊎ (kind ≡ variant.LwwSet) → admits_all kind ≡ true
+admits-overriding kind (inl is) = ap admits_all is
+admits-overriding kind (inr is) = ap admits_all is
+
 pub not_or_set-overriding : (kind : Kind) → (kind ≡ variant.Register) ⊎ (kind ≡ variant.LwwSet) → ¬ (kind ≡ variant.OrSet)
 not_or_set-overriding kind (inl is) other = let e : variant.Register ≡ variant.OrSet = sym is ∙ other in cc (e)
 not_or_set-overriding kind (inr is) other = let e : variant.LwwSet ≡ variant.OrSet = sym is ∙ other in cc (e)
@@ -66,29 +89,29 @@ not_counter-overriding kind (inr is) other = let e : variant.LwwSet ≡ variant.
 
 module _ (updates : List (Option Update)) (states : List State) (past : History) (kept : AreStatesOf updates states past) where
   -- the cause at the label is that of its queries on the state of its replica
-  pub cause_known : (next : NextOperation) (label : Label) (acts : List (Half × Act)) → ¬ (past.kind ≡ variant.Rga) → IsOffered past next label
-      → acts ≡ acts_of next.op → cause_in (Some (state_at states label.replica)) acts ≡ cause_of past.kind (operate next ∷ past.records)
-  cause_known next label acts not_rga offered same =
+  pub cause_known : (next : NextOperation) (label : Label) (acts : List (Half × Act)) → admits_all past.kind ≡ true → IsOffered past next label
+      → acts ≡ acts_of next.op → cause_in (Some (state_at states label.replica)) acts ≡ sequence_cause past.kind (operate next ∷ past.records)
+  cause_known next label acts admits offered same =
       let there : next.by < length states = omega (arith, kept.replicas, offered.replica) in
       let of_kind = is_of_kind past next label offered in
-      let admitted = still_admitted past.kind past.records next not_rga offered.holds of_kind in
+      let admitted = still_admitted past.kind past.records next admits offered.holds of_kind in
       ap (λ r. cause_in (Some (state_at states r)) acts) (its_replica past next label offered)
       ∙ ap (cause_in (Some (state_at states next.by))) same
       ∙ ap (λ o. cause_in o (acts_of next.op)) (sym (kept.folded next.by there))
       ∙ sym (cause_where_it_fits past.kind past.records next true offered.holds offered.fits admitted)
 
   -- the states after the label
-  pub states_taken : (next : NextOperation) (label : Label) → ¬ (past.kind ≡ variant.Rga) → IsOffered past next label
+  pub states_taken : (next : NextOperation) (label : Label) → admits_all past.kind ≡ true → IsOffered past next label
       → AreStatesOf (updates ++ update_in next.op ∷ []) (states_after states next.by (update_in next.op)) (history_with past (operate next))
-  states_taken next label not_rga offered =
-      kept-label updates states past kept next not_rga (omega (arith, kept.replicas, offered.replica))
+  states_taken next label admits offered =
+      kept-label updates states past kept next admits (omega (arith, kept.replicas, offered.replica))
       (is_of_kind past next label offered) offered.fits
 
-  pub can_take : (next : NextOperation) (label : Label) (update : Option Update) → ¬ (past.kind ≡ variant.Rga) → IsOffered past next label
+  pub can_take : (next : NextOperation) (label : Label) (update : Option Update) → admits_all past.kind ≡ true → IsOffered past next label
       → update ≡ update_in next.op → CanStep (state_at states label.replica) update
-  can_take next label update not_rga offered same =
+  can_take next label update admits offered same =
       let can = can_step (updates ++ update_in next.op ∷ []) states (history_with past (operate next)) next.by (update_in next.op)
-      (states_taken next label not_rga offered) (omega (arith, kept.replicas, offered.replica)) (omega (arith, offered.few)) in
+      (states_taken next label admits offered) (omega (arith, kept.replicas, offered.replica)) (omega (arith, offered.few)) in
       subst (λ r. CanStep (state_at states r) update) (sym (its_replica past next label offered))
       (subst (λ o. CanStep (state_at states next.by) o) (sym same) can)
 
@@ -115,7 +138,7 @@ pub commuting_taken : (old new : commuting.Commuting) (past : History) (next : N
     → AreEffectsOf (Commuting new) (history_with past (operate next))
 commuting_taken old new past next label update kept offered same updates states =
     let now = operate next ∷ past.records in
-    let later = states_taken old.updates.items old.states.items past kept.states next label (not_rga-commuting past.kind kept.one) offered in
+    let later = states_taken old.updates.items old.states.items past kept.states next label (admits-commuting past.kind kept.one) offered in
     let its_updates : new.updates.items ≡ old.updates.items ++ update_in next.op ∷ [] = updates ∙ ap (λ o. old.updates.items ++ o ∷ []) same in
     let its_states : new.states.items ≡ states_after old.states.items next.by (update_in next.op) =
     states
@@ -159,6 +182,7 @@ pub stamp_missing : (past : History) (next : NextOperation) (label : Label) (u :
     → (past.kind ≡ variant.Register) ⊎ (past.kind ≡ variant.LwwSet) → IsOffered past next label → update_in next.op ≡ Some u → label.stamp ≡ None → ⊥
 stamp_missing past next label u one offered does none =
     let of = of_its_kind past next label offered in
-    let carries = writes_are_stamped next.op u (λ is. not_counter-overriding past.kind one (sym of ∙ is)) (λ is. not_or_set-overriding past.kind one (sym of ∙ is)) (λ is. not_rga-overriding past.kind one (sym of ∙ is)) does in
+    let carries = writes_are_stamped next.op u (λ is. not_counter-overriding past.kind one (sym of ∙ is)) (λ is. not_or_set-overriding past.kind one (sym of ∙ is)) (λ is. not_rga-overriding past.kind one (sym of ∙ is))
+    (λ is. not_list-overriding past.kind one (sym of ∙ is)) does in
     let (at, is, least, stamped) = has_stamp past next label offered carries in
     none-some (stamp_at next.by at) (sym none ∙ stamped)

@@ -7,9 +7,10 @@ use Rattle.std.proofs.lemmas.List.Folds.{list_all-append}
 use Rattle.std.proofs.lemmas.List.Elements.{Contains-append_right}
 use Rattle.std.proofs.lemmas.List.Sorted.{Contains-permutation, IsPermutation-sym}
 use Rattle.ra_labels.specs.declared.kind.Kind.{Kind}
-use Rattle.ra_labels.specs.declared.kind.Kind.TheVariants.{Register, LwwSet, Rga}
+use Rattle.ra_labels.specs.declared.kind.Kind.TheVariants.{Register, LwwSet}
 use Rattle.ra_labels.specs.declared.operation.Update.{Update}
 use Rattle.ra_labels.specs.declared.operation.Update.TheVariants.{Inc, Dec, Write, LwwAdd, LwwRemove, OrAdd, TakeOut, After, RgaRemove}
+use Rattle.ra_labels.specs.declared.operation.Update.TheVariants as made
 use Rattle.ra_labels.specs.declared.label.Stamp.{Stamp}
 use Rattle.ra_labels.specs.declared.label.Label.{Label}
 use Rattle.ra_labels.specs.declared.command.Command.TheVariants.{Deliver}
@@ -19,7 +20,7 @@ use Rattle.ra_labels.specs.Specification.{State, state_after, is_admitted}
 use Rattle.ra_labels.specs.NamedOrder.{rank_of, named_labels}
 use Rattle.ra_labels.specs.Fault.{Holds}
 use Rattle.ra_labels.specs.Answer.{is_kind}
-use Rattle.ra_labels.specs.TheoremTerms.{IsStampBelow, StampsAreUnique, acts_on, kind_of_update}
+use Rattle.ra_labels.specs.TheoremTerms.{IsStampBelow, StampsAreUnique, acts_on, kind_of_update, admits_all}
 use Rattle.ra_labels.specs.Insertion.{delivered_updates_of, delivered_updates, HasUpdate}
 use Rattle.ra_labels.specs.Commuting.{then_step, last_written, last_on}
 use Rattle.ra_labels.proofs.Members.{behind_head, split_at}
@@ -35,29 +36,29 @@ use Rattle.ra_witness.specs.ElementNumbers.{element_of}
 use Rattle.ra_witness.specs.Overriding.{updates_written, write_at, counting}
 use Rattle.ra_witness.specs.Overridden.{IsNumberOf, AreWritesOf, IsLastOn, AreLastOf}
 use Rattle.ra_witness.proofs.Causes.{are_of}
-use Rattle.ra_witness.proofs.CommutingKinds.{not_rga-overriding}
+use Rattle.ra_witness.proofs.CommutingKinds.{admits-overriding}
 use Rattle.ra_witness.proofs.ReplicaStates.{kept-delivery, stepped}
 use Rattle.ra_witness.proofs.DoneUpdates.{its_write, written_made, update_of_write, had_makes, done_of_kind}
 use Rattle.ra_witness.proofs.DeliveredLasts.{one_write, IsNewWrite, counting-last}
 
 -- updates that led to a state are still admitted with one more update of the kind among them
-pub still_led : (kind : Kind) (first later : List Update) (u : Update) (s : State) → ¬ (kind ≡ Rga) → state_after kind (first ++ later) ≡ Some s
+pub still_led : (kind : Kind) (first later : List Update) (u : Update) (s : State) → admits_all kind ≡ true → state_after kind (first ++ later) ≡ Some s
     → is_kind kind (kind_of_update u) ≡ true → is_admitted kind (first ++ u ∷ later) ≡ true
-still_led kind first later u s not_rga led of_kind =
+still_led kind first later u s admits led of_kind =
     let test = λ (v : Update). is_kind kind (kind_of_update v) in
     let all = kind_updates_admitted-only kind (first ++ later) (ap is_some led) in
     let two = and_parts (are_of kind first) (are_of kind later) (sym (list_all-append test first later) ∙ all) in
-    kind_updates_admitted-exactly kind (first ++ u ∷ later) not_rga
+    kind_updates_admitted-exactly kind (first ++ u ∷ later) admits
     ∙ list_all-append test first (u ∷ later)
     ∙ and_from (are_of kind first) (are_of kind (u ∷ later)) two.0 (and_from (test u) (are_of kind later) of_kind two.1)
 
-pub admitted_delivered : (kind : Kind) (records : Records) (to : ℕ) (label : Label) (u : Update) (s : State) → ¬ (kind ≡ Rga) → Contains (labels_of records) label → HasUpdate label.op u
+pub admitted_delivered : (kind : Kind) (records : Records) (to : ℕ) (label : Label) (u : Update) (s : State) → admits_all kind ≡ true → Contains (labels_of records) label → HasUpdate label.op u
     → has_delivered records to label.number ≡ false → state_after kind (delivered_updates kind records to) ≡ Some s → is_kind kind (kind_of_update u) ≡ true
     → is_admitted kind (delivered_updates kind (Deliver to label.number ∷ records) to) ≡ true
-admitted_delivered kind records to label u s not_rga there makes new led of_kind =
+admitted_delivered kind records to label u s admits there makes new led of_kind =
     let (before, behind, is, was, now) = delivery_extends_delivered-own kind records to label u there makes new in
     ap (is_admitted kind) now
-    ∙ still_led kind (delivered_updates_of records to before) (delivered_updates_of records to behind) u s not_rga (sym (ap (state_after kind) was) ∙ led) of_kind
+    ∙ still_led kind (delivered_updates_of records to before) (delivered_updates_of records to behind) u s admits (sym (ap (state_after kind) was) ∙ led) of_kind
 
 -- a label's own stamp is its rank
 rank_is : (kind : Kind) (records : Records) (label : Label) (s : Stamp) → IsByTimestamp kind → label.stamp ≡ Some s → rank_of kind records label ≡ s
@@ -126,6 +127,7 @@ acts_there x (OrAdd y id) is = absurd (none-some x is)
 acts_there x (TakeOut y ids) is = absurd (none-some x is)
 acts_there x (After anchor y) is = absurd (none-some x is)
 acts_there x (RgaRemove y) is = absurd (none-some x is)
+acts_there x (made.List change) is = absurd (none-some x is)
 
 there_acts : (x : ℕ) (u : Update) → acts_on x u ≡ true → element_of u ≡ Some x
 there_acts x (LwwAdd y) is = ap Some (sym (eqb-true x y is))
@@ -162,8 +164,8 @@ module _ {writes : List (Option Written)} {lasts : List (List (Option ℕ))} {nu
   sorts : IsByTimestamp past.kind
   sorts = by_timestamp past.kind given.of_two
 
-  not_rga : ¬ (past.kind ≡ Rga)
-  not_rga = not_rga-overriding past.kind given.of_two
+  admits : admits_all past.kind ≡ true
+  admits = admits-overriding past.kind given.of_two
 
   abbrev now : Records
   now = Deliver to n ∷ past.records
@@ -196,7 +198,7 @@ module _ {writes : List (Option Written)} {lasts : List (List (Option ℕ))} {nu
   its_kind = of_kind it.label it.write.update it.there its_makes
 
   admitted : is_admitted past.kind (delivered_updates past.kind by_own_number to) ≡ true
-  admitted = admitted_delivered past.kind past.records to it.label it.write.update (state_at states to) not_rga
+  admitted = admitted_delivered past.kind past.records to it.label it.write.update (state_at states to) admits
       it.there its_makes its_new (given.kept.folded to given.there) its_kind
 
   last_own : HasUpdate last.label.op last.write.update
@@ -225,7 +227,7 @@ module _ {writes : List (Option Written)} {lasts : List (List (Option ℕ))} {nu
       ap (λ m. state_after past.kind (delivered_updates past.kind (Deliver to m ∷ past.records) to)) (sym it.number)
       ∙ step
       ∙ stepped past.kind (state_after past.kind was) (state_at states to) last.write.update led
-      (state_kind past.kind was (state_at states to) led) last_kind not_rga
+      (state_kind past.kind was (state_at states to) led) last_kind admits
       ∙ ap (λ o. Some (after_step (state_at states to) o)) (sym (update_of_write writes counts last.write last.found))
 
   -- the states after the delivery

@@ -11,6 +11,7 @@ use Rattle.std.proofs.lemmas.List.Sorted.{Contains-permutation}
 use Rattle.ra_labels.specs.declared.kind.Kind.{Kind}
 use Rattle.ra_labels.specs.declared.operation.Op.{Op}
 use Rattle.ra_labels.specs.declared.operation.Op.TheVariants as op
+use Rattle.ra_labels.specs.declared.list_operation.ListOp.TheVariants as list
 use Rattle.ra_labels.specs.declared.operation.Update.{Update}
 use Rattle.ra_labels.specs.declared.label.Label.{Label}
 use Rattle.ra_labels.specs.Records.{Records, labels_of}
@@ -35,6 +36,10 @@ use Rattle.ra_witness.proofs.ReplicaStates.{made_among}
 -- an operation has at most one update
 pub at_most_one : (operation : Op) → length (updates_in (acts_of operation)) ≤ 1
 at_most_one op.Inc = omega arith
+at_most_one (op.List (list.Insert insertion)) = omega arith
+at_most_one (op.List (list.Remove x)) = omega arith
+at_most_one (op.List (list.Read elements)) = omega arith
+at_most_one (op.List (list.Part elements)) = omega arith
 at_most_one _ = omega arith
 
 some_made : (acts : List (Half × Act)) (half : Half) (u : Update) → Contains acts (half, Does u) → 0 < length (updates_in acts)

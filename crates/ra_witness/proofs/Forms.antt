@@ -5,8 +5,10 @@ use Rattle.std.specs.List.{list_all}
 use Rattle.std.proofs.lemmas.Bool.{and_from}
 use Rattle.std.proofs.lemmas.Option.{none-some}
 use Rattle.ra_labels.specs.declared.kind.Kind.TheVariants.{Counter, OrSet, Rga}
+use Rattle.ra_labels.specs.declared.kind.Kind.TheVariants as kinds
 use Rattle.ra_labels.specs.declared.operation.Op.{Op}
 use Rattle.ra_labels.specs.declared.operation.Op.TheVariants as op
+use Rattle.ra_labels.specs.declared.list_operation.ListOp.TheVariants as list
 use Rattle.ra_labels.specs.declared.operation.Update.{Update}
 use Rattle.ra_labels.specs.declared.label.Label.{Label}
 use Rattle.ra_labels.specs.Records.{stamp_at}
@@ -29,13 +31,17 @@ asks_only_rising (op.Write value) rising = refl
 asks_only_rising (op.Last value) rising = refl
 asks_only_rising (op.LwwAdd x) rising = refl
 asks_only_rising (op.LwwRemove x) rising = refl
-asks_only_rising (op.LwwRead list) rising = and_from (rises list) true rising refl
+asks_only_rising (op.LwwRead elements) rising = and_from (rises elements) true rising refl
 asks_only_rising (op.OrAdd x id) rising = refl
 asks_only_rising (op.OrRemove x ids) rising = and_from (rises ids) true rising refl
-asks_only_rising (op.OrRead list) rising = and_from (rises list) true rising refl
+asks_only_rising (op.OrRead elements) rising = and_from (rises elements) true rising refl
 asks_only_rising (op.After anchor x) rising = refl
 asks_only_rising (op.RgaRemove x) rising = refl
-asks_only_rising (op.RgaRead list) rising = refl
+asks_only_rising (op.RgaRead elements) rising = refl
+asks_only_rising (op.List (list.Insert insertion)) rising = refl
+asks_only_rising (op.List (list.Remove x)) rising = refl
+asks_only_rising (op.List (list.Read elements)) rising = refl
+asks_only_rising (op.List (list.Part elements)) rising = refl
 
 module _ (past : History) (next : NextOperation) (label : Label) (offered : IsOffered past next label) where
   pub of_its_kind : kind_of next.op ≡ past.kind
@@ -64,18 +70,19 @@ module _ (past : History) (next : NextOperation) (label : Label) (offered : IsOf
 
 -- the update of a register or an LWW set carries a stamp
 pub writes_are_stamped : (operation : Op) (u : Update) → ¬ (kind_of operation ≡ Counter) → ¬ (kind_of operation ≡ OrSet) → ¬ (kind_of operation ≡ Rga)
-    → update_in operation ≡ Some u → carries_stamp operation ≡ true
-writes_are_stamped op.Inc u counter or_set rga is = absurd (counter refl)
-writes_are_stamped op.Dec u counter or_set rga is = absurd (counter refl)
-writes_are_stamped (op.Count v) u counter or_set rga is = absurd (counter refl)
-writes_are_stamped (op.Write value) u counter or_set rga is = refl
-writes_are_stamped (op.Last value) u counter or_set rga is = absurd (none-some u is)
-writes_are_stamped (op.LwwAdd x) u counter or_set rga is = refl
-writes_are_stamped (op.LwwRemove x) u counter or_set rga is = refl
-writes_are_stamped (op.LwwRead list) u counter or_set rga is = absurd (none-some u is)
-writes_are_stamped (op.OrAdd x id) u counter or_set rga is = absurd (or_set refl)
-writes_are_stamped (op.OrRemove x ids) u counter or_set rga is = absurd (or_set refl)
-writes_are_stamped (op.OrRead list) u counter or_set rga is = absurd (or_set refl)
-writes_are_stamped (op.After anchor x) u counter or_set rga is = absurd (rga refl)
-writes_are_stamped (op.RgaRemove x) u counter or_set rga is = absurd (rga refl)
-writes_are_stamped (op.RgaRead list) u counter or_set rga is = absurd (rga refl)
+    → ¬ (kind_of operation ≡ kinds.List) → update_in operation ≡ Some u → carries_stamp operation ≡ true
+writes_are_stamped op.Inc u counter or_set rga list is = absurd (counter refl)
+writes_are_stamped op.Dec u counter or_set rga list is = absurd (counter refl)
+writes_are_stamped (op.Count v) u counter or_set rga list is = absurd (counter refl)
+writes_are_stamped (op.Write value) u counter or_set rga list is = refl
+writes_are_stamped (op.Last value) u counter or_set rga list is = absurd (none-some u is)
+writes_are_stamped (op.LwwAdd x) u counter or_set rga list is = refl
+writes_are_stamped (op.LwwRemove x) u counter or_set rga list is = refl
+writes_are_stamped (op.LwwRead elements) u counter or_set rga list is = absurd (none-some u is)
+writes_are_stamped (op.OrAdd x id) u counter or_set rga list is = absurd (or_set refl)
+writes_are_stamped (op.OrRemove x ids) u counter or_set rga list is = absurd (or_set refl)
+writes_are_stamped (op.OrRead elements) u counter or_set rga list is = absurd (or_set refl)
+writes_are_stamped (op.After anchor x) u counter or_set rga list is = absurd (rga refl)
+writes_are_stamped (op.RgaRemove x) u counter or_set rga list is = absurd (rga refl)
+writes_are_stamped (op.RgaRead elements) u counter or_set rga list is = absurd (rga refl)
+writes_are_stamped (op.List operation) u counter or_set rga list is = absurd (list refl)

@@ -10,6 +10,14 @@ pub mod DeliveredLasts
 pub mod DoneUpdates
 pub mod CountingUpdates
 pub mod TakenLabels
+pub mod TakenLists
+pub mod ListStates
+pub mod ListCauses
+pub mod TakenOperations
+pub mod KeptLists
+pub mod NumberedChanges
+pub mod NeededChanges
+pub mod TakenDeliveries
 pub mod OfferedLabels
 pub mod Range
 pub mod Forms

@@ -7,6 +7,8 @@ use Rattle.std.proofs.lemmas.List.{map-append}
 use Rattle.ra_labels.specs.declared.kind.Kind.{Kind}
 use Rattle.ra_labels.specs.declared.operation.Op.{Op}
 use Rattle.ra_labels.specs.declared.operation.Op.TheVariants.{Inc}
+use Rattle.ra_labels.specs.declared.operation.Op.TheVariants as op
+use Rattle.ra_labels.specs.declared.list_operation.ListOp.TheVariants as list
 use Rattle.ra_labels.specs.declared.operation.Update.{Update}
 use Rattle.ra_labels.specs.declared.label.Label.{Label}
 use Rattle.ra_labels.specs.Records.{Records, labels_of}
@@ -24,6 +26,10 @@ refs_by found n = cond (has_query_half found) (ref_to n QueryHalf ∷ ref_to n U
 
 refs_of : (label : Label) (op : Op) → refs_by (Some (update_in op)) label.number ≡ map ref_of (map (part_of label) (acts_of op))
 refs_of label Inc = refl
+refs_of label (op.List (list.Insert insertion)) = refl
+refs_of label (op.List (list.Remove x)) = refl
+refs_of label (op.List (list.Read elements)) = refl
+refs_of label (op.List (list.Part elements)) = refl
 refs_of label _ = refl
 
 abbrev done_by : Label → Option Update

@@ -1,6 +1,6 @@
 -- Lemmas on the past that a witness represents after one more label, delivery or replica.
-use Rattle.std.proofs.Common.{◌≡◌, ℕ, ◌<◌, Bool, true, false, cond, List, ◌∷◌, length, Option, Some, None, refl, sym, ap, ◌∙◌, arith}
-use Rattle.std.specs.Prelude.{◌&&◌, ◌||◌, not, is_some, option_map}
+use Rattle.std.proofs.Common.{◌≡◌, ℕ, ◌<◌, Bool, true, false, cond, List, ◌∷◌, length, Option, Some, None, refl, sym, ap, ◌∙◌, subst, arith}
+use Rattle.std.specs.Prelude.{◌&&◌, ◌||◌, not, is_some, option_map, IfSome, MatchOption}
 use Rattle.std.specs.Option.{option_or, option_to_list}
 use Rattle.std.proofs.lemmas.List.{length-map}
 use Rattle.std.proofs.lemmas.List.Sorted.{length_permutation}
@@ -10,6 +10,7 @@ use Rattle.ra_labels.specs.declared.label.Label.{Label}
 use Rattle.ra_labels.specs.declared.command.Command.{Command}
 use Rattle.ra_labels.specs.declared.command.Command.TheVariants.{Deliver, Join}
 use Rattle.ra_labels.specs.declared.refusal.Refusal.{Refusal}
+use Rattle.ra_labels.specs.declared.reply.Cause.{Cause}
 use Rattle.ra_labels.specs.declared.reply.Cause.TheVariants as cause
 use Rattle.ra_labels.specs.declared.operation.Update.{Update}
 use Rattle.ra_labels.specs.declared.limits.TheConstants.{MOST_REPLICAS}
@@ -17,11 +18,12 @@ use Rattle.ra_labels.specs.Records.{Records, label_count, labels_of}
 use Rattle.ra_labels.specs.Rewriting.{Half, Act, acts_of}
 use Rattle.ra_labels.specs.Linearization.{extends_visibility, updates_admitted}
 use Rattle.ra_labels.specs.NamedOrder.{named_labels, named_sequence}
-use Rattle.ra_labels.specs.Fault.{fault_of, fault_at, cause_of}
+use Rattle.ra_labels.specs.Fault.{fault_of, fault_at, sequence_cause, cause_of}
+use Rattle.ra_labels.specs.ListHistory.{keeps_an_order}
 use Rattle.ra_labels.specs.Answer.{refusal_of, records_after, with_accepted}
 use Rattle.ra_labels.proofs.Counted.{labels_counted}
 use Rattle.ra_labels.specs.HistorySoFar.{History, replicas_of, history_with, IsAccepted, NextOperation, operate, label_of}
-use Rattle.ra_theorems.proofs.TheoremIndex.{fault_none_implies_holds, named_labels_sorted-same, operation_accepted_iff, stamps_unique-one, identifiers_unique-one, accepted_labels_well_formed-one, delivery_accepted_iff_causal, join_accepted_iff, nothing_delivered_before_join-one, cause_none_iff_holds}
+use Rattle.ra_theorems.proofs.TheoremIndex.{fault_none_implies_holds, named_labels_sorted-same, operation_accepted_iff, stamps_unique-one, identifiers_unique-one, accepted_labels_well_formed-one, delivery_accepted_iff_causal, join_accepted_iff, nothing_delivered_before_join-one, sequence_cause_none_iff}
 use Rattle.ra_visibility.specs.declared.order.Place.{Place}
 use Rattle.ra_visibility.specs.declared.limits.TheConstants.{MOST_LABELS}
 use Rattle.ra_visibility.specs.Seen.{Seen}
@@ -82,9 +84,31 @@ first_listed (Some x) = refl
 pub update_known : (o : Option Update) (acts : List (Half × Act)) (op : Op) → option_to_list o ≡ updates_in acts → acts ≡ acts_of op → o ≡ update_in op
 update_known o acts op listed is = first_listed o ∙ ap head_of listed ∙ ap (λ acts. head_of (updates_in acts)) is
 
--- if no condition fails at the label, the updates of all labels are admitted
-pub all_admitted : (kind : Kind) (records : Records) → None ≡ cause_of kind records → updates_admitted kind (named_sequence kind records) ≡ true
-all_admitted kind records because = ((cause_none_iff_holds kind records).0 (sym because)).updates
+-- if the named sequence fails no condition at the label, the updates of all labels are admitted
+pub all_admitted : (kind : Kind) (records : Records) → None ≡ sequence_cause kind records → updates_admitted kind (named_sequence kind records) ≡ true
+all_admitted kind records because = ((sequence_cause_none_iff kind records).0 (sym because)).1
+
+-- the cause is the condition that the named sequence fails, else the order if no order explains the elements of a list
+pub cause_in_sequence : (kind : Kind) (records : Records) (why : Cause) → Some why ≡ sequence_cause kind records → Some why ≡ cause_of kind records
+cause_in_sequence kind records why is =
+    ap (λ o. option_or o (cond (keeps_an_order kind records) None (Some cause.Order))) is
+
+pub cause_of_elements : (kind : Kind) (records : Records) (keeps : Bool) → None ≡ sequence_cause kind records → keeps_an_order kind records ≡ keeps
+    → cond keeps None (Some cause.Order) ≡ cause_of kind records
+cause_of_elements kind records keeps is known =
+    sym (ap (λ b. cond b None (Some cause.Order)) known) ∙ ap (λ o. option_or o (cond (keeps_an_order kind records) None (Some cause.Order))) is
+
+-- what holds of a case of an option
+pub in_some : {A : Type 0} (P : Type 0) (Q : A → Type 0) (o : Option A) (x : A) → o ≡ Some x → MatchOption o P Q → Q x
+in_some P Q o x is both = subst (λ a. MatchOption a P Q) is both
+
+pub in_some_part : {A : Type 0} (Q : A → Type 0) (o : Option A) (x : A) → o ≡ Some x → IfSome o Q → Q x
+in_some_part Q o x is part = subst (λ a. IfSome a Q) is part
+
+pub in_none : {A : Type 0} (P : Type 0) (Q : A → Type 0) (o : Option A) → ((x : A) → o ≡ Some x → ⊥)
+    → MatchOption o P Q → P
+in_none P Q None none both = both
+in_none P Q (Some x) none both = absurd (none x refl)
 
 pub same_op : (label : Label) (records : Records) (next : NextOperation) → label ≡ label_of records next → acts_of label.op ≡ acts_of next.op
 same_op label records next is = ap (λ (l : Label). acts_of l.op) is

@@ -14,7 +14,7 @@ use Rattle.ra_labels.specs.Rewriting.{acts_of}
 use Rattle.ra_labels.specs.Specification.{State, state_after, is_admitted}
 use Rattle.ra_labels.specs.NamedOrder.{named_sequence}
 use Rattle.ra_labels.specs.Linearization.{updates_admitted}
-use Rattle.ra_labels.specs.Fault.{cause_of}
+use Rattle.ra_labels.specs.Fault.{sequence_cause}
 use Rattle.ra_labels.specs.Answer.{kind_of}
 use Rattle.ra_labels.specs.Insertion.{delivered_updates}
 use Rattle.ra_labels.proofs.InLists.{bool_same}
@@ -50,6 +50,7 @@ asks_only (ops.OrRead list) after removes of = refl
 asks_only (ops.After anchor x) after removes of = absurd (after anchor x refl)
 asks_only (ops.RgaRemove x) after removes of = absurd (removes x refl)
 asks_only (ops.RgaRead list) after removes of = refl
+asks_only (ops.List operation) after removes of = absurd (cc (of))
 
 either_cause : (a b : Bool) → b ≡ a → cond b None (Some cause.Update) ≡ cond (not a) (Some cause.Update) None
 either_cause true b same = ap (λ c. cond c None (Some cause.Update)) same
@@ -62,11 +63,11 @@ module _ (initial_replicas : ℕ) (records : Records) (next : NextOperation) (la
   pub query_admitted : is_update next.op ≡ false → updates_admitted variant.Rga (named_sequence variant.Rga now) ≡ true
   query_admitted asks = ap (is_admitted variant.Rga) (operation_inserts_among_all-query variant.Rga records next asks) ∙ offered.holds.updates
 
-  pub query_cause : is_update next.op ≡ false → cause_in (state_after variant.Rga (delivered_updates variant.Rga records next.by)) (acts_of next.op) ≡ cause_of variant.Rga now
+  pub query_cause : is_update next.op ≡ false → cause_in (state_after variant.Rga (delivered_updates variant.Rga records next.by)) (acts_of next.op) ≡ sequence_cause variant.Rga now
   query_cause asks = sym (cause_where_it_fits variant.Rga records next true offered.holds offered.fits (query_admitted asks))
 
   pub update_cause : (b : Bool) → ((o : Option State) → cause_in o (acts_of next.op) ≡ None)
-      → (b ≡ true) ↔ (updates_admitted variant.Rga (named_sequence variant.Rga now) ≡ true) → cond b None (Some cause.Update) ≡ cause_of variant.Rga now
+      → (b ≡ true) ↔ (updates_admitted variant.Rga (named_sequence variant.Rga now) ≡ true) → cond b None (Some cause.Update) ≡ sequence_cause variant.Rga now
   update_cause b none exactly =
       let a = updates_admitted variant.Rga (named_sequence variant.Rga now) in
       let o = state_after variant.Rga (delivered_updates variant.Rga records next.by) in

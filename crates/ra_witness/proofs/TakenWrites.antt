@@ -24,7 +24,7 @@ use Rattle.ra_witness.specs.Offered.{IsOffered}
 use Rattle.ra_witness.specs.Effects.{IsOverridingOf}
 use Rattle.ra_witness.proofs.TakenLabels.{writes-query, lasts-query, writes-update, lasts-update}
 use Rattle.ra_witness.proofs.Forms.{its_replica}
-use Rattle.ra_witness.proofs.CommutingKinds.{not_rga-overriding, states_taken}
+use Rattle.ra_witness.proofs.CommutingKinds.{admits-overriding, states_taken}
 use Rattle.ra_witness.proofs.CountingUpdates.{by_timestamp}
 use Rattle.ra_witness.proofs.OverridingKinds.{numbers_of, writes_counted, below_with, count_grows}
 
@@ -61,7 +61,7 @@ module _ (old new : Overriding) (past : History) (next : NextOperation) (label :
       } in
       let sorts = by_timestamp past.kind stands.one in
       let kept = stands.states.labels in
-      let later = states_taken (updates_written old.writes.items) old.states.items past stands.states next label (not_rga-overriding past.kind stands.one) offered in
+      let later = states_taken (updates_written old.writes.items) old.states.items past stands.states next label (admits-overriding past.kind stands.one) offered in
       let its_updates : updates_written new.writes.items ≡ updates_written old.writes.items ++ update_in next.op ∷ [] =
       ap updates_written its_writes ∙ more_updates old.writes.items (Some write) ∙ ap (λ o. updates_written old.writes.items ++ o ∷ []) does in
       let its_states : new.states.items ≡ states_after old.states.items next.by (update_in next.op) =
@@ -92,7 +92,7 @@ module _ (old new : Overriding) (past : History) (next : NextOperation) (label :
   -- after a label that is not an update
   pub overriding_asked : None ≡ update_in next.op → new.writes.items ≡ old.writes.items ++ None ∷ [] → new ≡ record old { writes = new.writes } → IsOverridingOf new (history_of past.kind past.initial_replicas now)
   overriding_asked does its_writes same =
-      let later = states_taken (updates_written old.writes.items) old.states.items past stands.states next label (not_rga-overriding past.kind stands.one) offered in
+      let later = states_taken (updates_written old.writes.items) old.states.items past stands.states next label (admits-overriding past.kind stands.one) offered in
       let kept = stands.states.labels in
       let its_updates : updates_written new.writes.items ≡ updates_written old.writes.items ++ update_in next.op ∷ [] =
       ap updates_written its_writes ∙ more_updates old.writes.items None ∙ ap (λ o. updates_written old.writes.items ++ o ∷ []) does in

@@ -12,14 +12,17 @@ use Rattle.ra_labels.specs.HistorySoFar.{History, replicas_of, NextOperation, op
 use Rattle.ra_visibility.specs.declared.limits.TheConstants.{MOST_LABELS}
 use Rattle.ra_witness.specs.declared.commuting.Commuting as commuting
 use Rattle.ra_witness.specs.declared.overriding.Overriding as overriding
-use Rattle.ra_witness.specs.declared.rga.Found.{Found}
+use Rattle.ra_witness.specs.declared.effects.Found.{Found}
+use Rattle.ra_witness.specs.declared.effects.Found.TheVariants.{InRga, InList}
 use Rattle.ra_witness.specs.declared.effects.Effects.{Effects}
 use Rattle.ra_witness.specs.declared.effects.Effects.TheVariants.{Commuting, Overriding, Rga}
+use Rattle.ra_witness.specs.declared.effects.Effects.TheVariants as form
 use Rattle.ra_witness.specs.Labels.{update_in}
 use Rattle.ra_witness.specs.Standing.{AreStatesOf}
 use Rattle.ra_witness.specs.Overriding.{updates_written, labels_in}
 use Rattle.ra_witness.specs.Overridden.{AreWritesOf, AreLastOf, AreBelow}
 use Rattle.ra_witness.specs.Rga.{IsRgaOf, IsFoundFor}
+use Rattle.ra_witness.specs.KeptList as list
 use Rattle.ra_witness.specs.Offered.{IsOffered, IsDelivered, IsJoinedFrom}
 
 -- holds if the structure represents the past of a counter or an OR-Set
@@ -42,16 +45,20 @@ abbrev pub AreEffectsOfForm : Effects → History → Type 0
 AreEffectsOfForm (Commuting kept) past = IsCommutingOf kept past
 AreEffectsOfForm (Overriding kept) past = IsOverridingOf kept past
 AreEffectsOfForm (Rga kept) past = (past.kind ≡ variant.Rga) × IsRgaOf kept past.initial_replicas past.records
+AreEffectsOfForm (form.List kept) past = (past.kind ≡ variant.List)
+    × list.IsListOf kept past.initial_replicas past.records
 
 pub record AreEffectsOf (kept : Effects) (past : History) : Type 0 where
   pub few : label_count past.records ≤ MOST_LABELS
   pub form : AreEffectsOfForm kept past
 
--- holds if this was found for the label, if the structure is that of an RGA
+-- holds if this was found for the label, if the structure is that of an RGA or a list
 abbrev pub IsFoundIn : Effects → Label → Found → Type 0
 IsFoundIn (Commuting kept) label found = Unit {0}
 IsFoundIn (Overriding kept) label found = Unit {0}
-IsFoundIn (Rga kept) label found = IsFoundFor kept label found
+IsFoundIn (Rga kept) label (InRga found) = IsFoundFor kept label found
+IsFoundIn (form.List kept) label (InList found) = list.IsFoundFor kept label found
+IsFoundIn _ label found = ⊥
 
 -- holds if, after some past that the structure represents, the label is offered and has these acts
 pub record MayMeet (kept : Effects) (label : Label) (acts : List (Half × Act)) : Type 0 where

@@ -6,6 +6,7 @@ pub mod ElementNumbers
 pub mod Overriding
 pub mod Overridden
 pub mod Rga
+pub mod KeptList
 pub mod Settled
 pub mod Offered
 pub mod Effects

@@ -3,6 +3,7 @@ use Rattle.std.specs.Prelude.{ℕ, Bool, true, false, List, [], ◌∷◌, Optio
 use Rattle.std.specs.List.{slice_get}
 use Rattle.ra_labels.specs.declared.operation.Update.{Update}
 use Rattle.ra_labels.specs.declared.operation.Update.TheVariants.{TakeOut}
+use Rattle.ra_labels.specs.declared.operation.Update.TheVariants as updates
 use Rattle.ra_labels.specs.Rewriting as rewriting
 use Rattle.ra_witness.specs.declared.part_ref.Half.{Half}
 use Rattle.ra_witness.specs.declared.part_ref.Half.TheVariants.{Whole, QueryHalf, UpdateHalf}
@@ -22,6 +23,7 @@ ref_to n which = record { label = n; half = which }
 -- `true` if a label with this update has a query half as well
 abbrev pub has_query_half : Option (Option Update) → Bool
 has_query_half (Some (Some (TakeOut x ids))) = true
+has_query_half (Some (Some (updates.List change))) = true
 has_query_half _ = false
 
 -- the parts of label n, given the labels' updates

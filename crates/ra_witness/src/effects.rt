@@ -1,5 +1,5 @@
 //! The effects of labels and the states of replicas, represented by how a kind treats late updates.
-ghost use Rattle.std.specs.Prelude.{◌≡◌, ℕ, ◌+◌, ◌≤◌, ◌++◌, ◌∷◌, true, List, length, IfOk, OnOk, OnErr};
+ghost use Rattle.std.specs.Prelude.{◌≡◌, ℕ, ◌+◌, ◌≤◌, ◌++◌, ◌∷◌, true, false, List, length, None, IfOk, IfSome, OnOk, OnErr, MatchOption};
 ghost use Rattle.std.specs.Result.{result_err};
 ghost use Rattle.std.specs.List.{slice_get};
 ghost use Rattle.std.specs.Option.{option_to_list};
@@ -11,7 +11,8 @@ ghost use Rattle.ra_labels.specs.Visibility.{has_delivered};
 ghost use Rattle.ra_labels.specs.Rewriting.{acts_of};
 ghost use Rattle.ra_labels.specs.NamedOrder.{named_labels, named_sequence};
 ghost use Rattle.ra_labels.specs.Linearization.{updates_admitted};
-ghost use Rattle.ra_labels.specs.Fault.{cause_of};
+ghost use Rattle.ra_labels.specs.Fault.{sequence_cause};
+ghost use Rattle.ra_labels.specs.ListHistory.{keeps_an_order};
 ghost use Rattle.ra_labels.specs.TheoremTerms.{EachLabelIsWellFormed};
 ghost use Rattle.ra_labels.specs.Specification.{is_admitted};
 ghost use Rattle.ra_labels.specs.Insertion.{updates_among, delivered_updates};
@@ -25,9 +26,11 @@ ghost use Rattle.ra_witness.specs.Offered.{IsOffered, IsDelivered, IsJoinedFrom}
 ghost use Rattle.ra_witness.specs.Effects.{AreEffectsOf, IsOverridingOf, IsFoundIn, MayMeet, MayAdd, MayWrite, MayDeliver, MayJoinFrom};
 
 use crate::commuting::Commuting;
+use crate::kept_list::KeptList;
 use crate::overriding::Overriding;
-use crate::rga::{Found, Rga};
+use crate::rga::{self, Rga};
 use ra_labels::{Cause, Kind, Label, NoMemory, Update};
+use ra_list_effects::Found as FoundInList;
 use ra_rewrite::Parts;
 use std::alloc::Global;
 
@@ -40,6 +43,19 @@ pub enum Effects {
     Overriding(Overriding),
     /// RGA: a late element goes behind the nearest present element before it.
     Rga(Rga),
+    /// List: a late update has the effect of the last one, and one order of the elements is kept.
+    List(KeptList),
+}
+
+/// What a label names, by number, so that nothing is looked up again when the label is added.
+#[derive(Drop)]
+pub enum Found {
+    /// Nothing that is kept by number.
+    Nothing,
+    /// What a label of an RGA names.
+    InRga(rga::Found),
+    /// What a label of a list names.
+    InList(FoundInList),
 }
 
 /// What the test of a label found, so that nothing is looked up again when the label is added.
@@ -47,7 +63,7 @@ pub enum Effects {
 pub struct Admitted {
     /// The label's update, if it has one.
     pub update: Option<Update>,
-    /// What the label names, if it is one of an RGA.
+    /// What the label names.
     pub found: Found,
 }
 
@@ -68,77 +84,108 @@ impl Effects {
                 alloc, kind, replicas,
             )?)),
             Kind::Rga => Ok(Effects::Rga(Rga::new(alloc, replicas)?)),
+            Kind::List => Ok(Effects::List(KeptList::new(alloc, replicas)?)),
         }
     }
 
     /// Returns the update of the next label, if it has one, and what it names. The label has these parts. Consumes
-    /// them, so that they are dropped in one place.
+    /// them, so that they are dropped in one place. Or returns the first condition that the named sequence fails with
+    /// the label, apart from its order.
     ///
     /// # Errors
     ///
-    /// The first condition that fails with the label, apart from the order.
-    pub fn admit(&self, label: &Label, parts: Parts) -> Result<Admitted, Cause>
-        requires { MayMeet self.now label.now (acts_in parts) }
-        ensures cause { (past : History) (next : NextOperation) → AreEffectsOf self.now past
+    /// `NoMemory` if allocation fails; nothing changes.
+    pub fn admit(
+        &mut self,
+        label: &Label,
+        parts: Parts,
+    ) -> Result<Result<Admitted, Cause>, NoMemory>
+        requires { MayMeet self.old label.now (acts_in parts) }
+        ensures cause { (past : History) (next : NextOperation) → AreEffectsOf self.old past
             → IsOffered past next label.now
             → acts_in parts ≡ acts_of next.op
-            → result_err result ≡ cause_of past.kind (operate next ∷ past.records) }
-        ensures update { IfOk result (λ admitted. option_to_list admitted.update ≡ updates_in (acts_in parts)) }
-        ensures found { IfOk result (λ admitted. IsFoundIn self.now label.now admitted.found) }
+            → IfOk result (λ tested. result_err tested ≡ sequence_cause past.kind (operate next ∷ past.records)) }
+        ensures update { IfOk result (λ tested. IfOk tested (λ admitted.
+            option_to_list admitted.update ≡ updates_in (acts_in parts))) }
+        ensures found { IfOk result (λ tested. IfOk tested (λ admitted.
+            IsFoundIn self.old label.now admitted.found)) }
+        ensures same { self.new ≡ self.old }
     {
-        match self.find(label, &parts) {
-            Err(cause) => Err(cause),
-            Ok(found) => Ok(Admitted {
+        match self.find(label, &parts)? {
+            Err(cause) => Ok(Err(cause)),
+            Ok(found) => Ok(Ok(Admitted {
                 update: parts.into_update(),
                 found,
-            }),
+            })),
         }
     }
 
-    // Returns what the next label names, which has these parts, or the first condition that fails with it, apart from
-    // the order.
-    fn find(&self, label: &Label, parts: &Parts) -> Result<Found, Cause>
-        requires { MayMeet self.now label.now (acts_in parts.now) }
-        ensures cause { (past : History) (next : NextOperation) → AreEffectsOf self.now past
+    // Returns what the next label names, which has these parts, or the first condition that the named sequence fails
+    // with it, apart from its order.
+    fn find(&mut self, label: &Label, parts: &Parts) -> Result<Result<Found, Cause>, NoMemory>
+        requires { MayMeet self.old label.now (acts_in parts.now) }
+        ensures cause { (past : History) (next : NextOperation) → AreEffectsOf self.old past
             → IsOffered past next label.now
             → acts_in parts.now ≡ acts_of next.op
-            → result_err result ≡ cause_of past.kind (operate next ∷ past.records) }
-        ensures found { IfOk result (IsFoundIn self.now label.now) }
+            → IfOk result (λ tested. result_err tested ≡ sequence_cause past.kind (operate next ∷ past.records)) }
+        ensures found { IfOk result (λ tested. IfOk tested (IsFoundIn self.old label.now)) }
+        ensures same { self.new ≡ self.old }
     {
         match self {
-            Effects::Commuting(kept) => nothing_unless(kept.cause(label.replica, parts)),
-            Effects::Overriding(kept) => nothing_unless(kept.cause(label.replica, parts)),
-            Effects::Rga(kept) => kept.admit(label, parts),
+            Effects::Commuting(kept) => Ok(nothing_unless(kept.cause(label.replica, parts))),
+            Effects::Overriding(kept) => Ok(nothing_unless(kept.cause(label.replica, parts))),
+            Effects::Rga(kept) => match kept.admit(label, parts) {
+                Ok(found) => Ok(Ok(Found::InRga(found))),
+                Err(cause) => Ok(Err(cause)),
+            },
+            Effects::List(kept) => match kept.find(label)? {
+                Ok(found) => Ok(Ok(Found::InList(found))),
+                Err(cause) => Ok(Err(cause)),
+            },
         }
     }
 
-    /// Adds the next label, with what its test found, and returns the number of steps, at most 1.
+    /// Adds the next label, with what its test found, and returns the number of steps, at most 1. Returns `None`, and
+    /// the same history is represented, if no order of the elements of a list explains it with the label.
     ///
     /// # Errors
     ///
     /// `NoMemory` if allocation fails; the same history is represented.
-    pub fn add(&mut self, label: &Label, admitted: Admitted) -> Result<u64, NoMemory>
+    pub fn add(&mut self, label: &Label, admitted: Admitted) -> Result<Option<u64>, NoMemory>
         requires may { MayAdd self.old label.now admitted.update }
         requires found { IsFoundIn self.old label.now admitted.found }
         ensures taken { (past : History) (next : NextOperation) → AreEffectsOf self.old past
             → IsOffered past next label.now
-            → updates_admitted past.kind (named_sequence past.kind (operate next ∷ past.records)) ≡ true
+            → sequence_cause past.kind (operate next ∷ past.records) ≡ None
             → admitted.update ≡ update_in next.op
-            → OnOk result (AreEffectsOf self.new (history_with past (operate next))) }
-        ensures step { IfOk result (λ steps. steps ≤ 1) }
+            → IfOk result (λ added. MatchOption added
+            (AreEffectsOf self.new past × (keeps_an_order past.kind (operate next ∷ past.records) ≡ false))
+            (λ steps. AreEffectsOf self.new (history_with past (operate next))
+            × (keeps_an_order past.kind (operate next ∷ past.records) ≡ true))) }
+        ensures unchanged { (past : History) → AreEffectsOf self.old past
+            → IfOk result (λ added. MatchOption added (AreEffectsOf self.new past) (λ steps. Unit {0})) }
+        ensures step { IfOk result (λ added. IfSome added (λ steps. steps ≤ 1)) }
         ensures counted { (past : History) → AreEffectsOf self.old past → ¬ (past.kind ≡ kinds.Rga)
-            → IfOk result (λ steps. steps ≡ steps_of admitted.update) }
+            → IfOk result (λ added. IfSome added (λ steps. steps ≡ steps_of admitted.update)) }
         ensures settled { (past : History) (next : NextOperation) → AreEffectsOf self.old past
             → IsOffered past next label.now
             → updates_admitted past.kind (named_sequence past.kind (operate next ∷ past.records)) ≡ true
-            → past.kind ≡ kinds.Rga → IfOk result (SettlesMore past.records (operate next) next.by) }
+            → past.kind ≡ kinds.Rga
+            → IfOk result (λ added. IfSome added (SettlesMore past.records (operate next) next.by)) }
         ensures same { (past : History) → AreEffectsOf self.old past → OnErr result (AreEffectsOf self.new past) }
     {
         let Admitted { update, found } = admitted;
         match self {
-            Effects::Commuting(kept) => kept.add(label.replica, update),
-            Effects::Overriding(kept) => add_write(kept, label, update),
-            Effects::Rga(kept) => kept.add(label, found),
+            Effects::Commuting(kept) => Ok(Some(kept.add(label.replica, update)?)),
+            Effects::Overriding(kept) => Ok(Some(add_write(kept, label, update)?)),
+            Effects::Rga(kept) => match found {
+                Found::InRga(found) => Ok(Some(kept.add(label, found)?)),
+                _ => unreachable!(),
+            },
+            Effects::List(kept) => match found {
+                Found::InList(found) => kept.add(label, found),
+                _ => unreachable!(),
+            },
         }
     }
 
@@ -176,6 +223,10 @@ impl Effects {
                 Ok(1)
             }
             Effects::Rga(kept) => kept.deliver(replica, label),
+            Effects::List(kept) => match kept.deliver(replica, label) {
+                Ok(()) => Ok(1),
+                Err(refused) => Err(refused),
+            },
         }
     }
 
@@ -194,19 +245,20 @@ impl Effects {
             Effects::Commuting(kept) => kept.join(from),
             Effects::Overriding(kept) => kept.join(from),
             Effects::Rga(kept) => kept.join(from),
+            Effects::List(kept) => kept.join(from),
         }
     }
 
-    /// Returns a list that shows which labels have two halves. It has the update of each label, if any, or is empty for
-    /// a kind without such labels.
-    pub fn updates(&self) -> &[Option<Update>]
-        ensures { (past : History) (n : ℕ) → AreEffectsOf self.now past
+    /// Returns `true` if the label has two halves.
+    pub fn has_halves(&self, label: u32) -> bool
+        ensures { (past : History) → AreEffectsOf self.now past
             → EachLabelIsWellFormed past.kind past.initial_replicas past.records
-            → has_query_half (slice_get result.now n) ≡ has_query_half (slice_get (updates_by_number past.records) n) }
+            → result ≡ has_query_half (slice_get (updates_by_number past.records) label) }
     {
         match self {
-            Effects::Commuting(kept) => kept.updates.as_slice(),
-            Effects::Overriding(_) | Effects::Rga(_) => &[],
+            Effects::Commuting(kept) => has_query_half(&kept.updates, label),
+            Effects::Overriding(_) | Effects::Rga(_) => false,
+            Effects::List(kept) => kept.has_update(label),
         }
     }
 
@@ -216,7 +268,18 @@ impl Effects {
             Effects::Commuting(kept) => *kept.updates.allocator(),
             Effects::Overriding(kept) => *kept.writes.allocator(),
             Effects::Rga(kept) => kept.allocator(),
+            Effects::List(kept) => kept.allocator(),
         }
+    }
+}
+
+// Returns `true` if the label, whose update is in this list, has two halves.
+fn has_query_half(updates: &[Option<Update>], label: u32) -> bool
+    ensures { result ≡ has_query_half (slice_get updates.now label) }
+{
+    match updates.get(label as usize) {
+        Some(Some(Update::TakeOut { .. } | Update::List(_))) => true,
+        _ => false,
     }
 }
 

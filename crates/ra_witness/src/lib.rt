@@ -10,6 +10,8 @@
 //! - For an RGA an insertion goes directly behind the nearest present element before it, in the list of all elements
 //!   (`rga`). An update whose anchor or element is missing is pending and takes no step. A delivered insertion may
 //!   settle pending updates: those that wait for its element, then those that wait for theirs, each by one more step.
+//! - For a list it is the update's own step, a mark of its element (`kept_list`). One order of all elements is kept
+//!   besides (`ra_list_effects`), which extends the edges that the labels require.
 //!
 //! A replica that joins starts with a copy of the other one's state.
 //!
@@ -19,6 +21,7 @@
 
 mod commuting;
 mod effects;
+mod kept_list;
 mod overriding;
 mod part_ref;
 mod queries;

@@ -10,7 +10,7 @@ ghost use Rattle.ra_labels.specs.Visibility.{has_delivered};
 ghost use Rattle.ra_labels.specs.Rewriting.{acts_of};
 ghost use Rattle.ra_labels.specs.NamedOrder.{named_sequence};
 ghost use Rattle.ra_labels.specs.Linearization.{updates_admitted};
-ghost use Rattle.ra_labels.specs.Fault.{cause_of};
+ghost use Rattle.ra_labels.specs.Fault.{sequence_cause};
 ghost use Rattle.ra_labels.specs.Specification.{state_after, is_admitted};
 ghost use Rattle.ra_labels.specs.Insertion.{delivered_updates};
 ghost use Rattle.ra_labels.specs.HistorySoFar.{history_of, NextOperation, operate};
@@ -92,7 +92,7 @@ impl Rga {
             → IsRgaOf self.now initial_replicas records
             → IsOffered (history_of kinds.Rga initial_replicas records) next label.now
             → acts_in parts.now ≡ acts_of next.op
-            → result_err result ≡ cause_of kinds.Rga (operate next ∷ records) }
+            → result_err result ≡ sequence_cause kinds.Rga (operate next ∷ records) }
         ensures found { IfOk result (IsFoundFor self.now label.now) }
     {
         match &label.op {

@@ -2,7 +2,7 @@
 //! that does nothing.
 ghost use Rattle.std.specs.Prelude.{◌≡◌, ◌⊎◌, ℕ, ◌+◌, ◌<◌, ◌≤◌, true, false, not, List, [], ◌∷◌, ◌++◌, length, map, flat_map, Option, Some, None, get_or, if◌then◌else◌};
 ghost use Rattle.ra_labels.specs.declared.kind.Kind.{Kind};
-ghost use Rattle.ra_labels.specs.declared.kind.Kind.TheVariants.{Counter, Register, LwwSet, OrSet, Rga};
+ghost use Rattle.ra_labels.specs.declared.kind.Kind.TheVariants.{Counter, Register, LwwSet, OrSet};
 ghost use Rattle.ra_labels.specs.declared.operation.Update.{Update};
 ghost use Rattle.ra_labels.specs.declared.command.Command.TheVariants.{Deliver, Join};
 ghost use Rattle.ra_labels.specs.declared.reply.Cause.TheVariants as cause;
@@ -14,9 +14,9 @@ ghost use Rattle.ra_labels.specs.Rewriting.{acts_of};
 ghost use Rattle.ra_labels.specs.Specification.{State, state_after};
 ghost use Rattle.ra_labels.specs.Linearization.{extends_visibility, updates_admitted};
 ghost use Rattle.ra_labels.specs.NamedOrder.{named_sequence};
-ghost use Rattle.ra_labels.specs.Fault.{Holds, cause_of};
+ghost use Rattle.ra_labels.specs.Fault.{Holds, sequence_cause};
 ghost use Rattle.ra_labels.specs.Answer.{kind_of, is_kind};
-ghost use Rattle.ra_labels.specs.TheoremTerms.{IdentifiersAreUnique, StampsAreUnique};
+ghost use Rattle.ra_labels.specs.TheoremTerms.{IdentifiersAreUnique, StampsAreUnique, admits_all};
 ghost use Rattle.ra_labels.specs.Insertion.{delivered_updates, HasUpdate};
 ghost use Rattle.ra_labels.specs.HistorySoFar.{History, history_of, replicas_of, history_with, NextOperation, operate};
 ghost use Rattle.ra_visibility.specs.Order.{IsByTimestamp, numbers_in};
@@ -38,24 +38,24 @@ pub fn new_update_is_last_delivered()
 {}
 
 /// Theorem: if records hold and a new label fits the order, its cause is `Update` if the updates of all labels are not
-/// admitted, and otherwise that of its query in its replica's state. For all kinds except RGA, a new label of the kind
-/// keeps them admitted.
+/// admitted, and otherwise that of its query in its replica's state. For the kinds of `admits_all`, a new label of the
+/// kind keeps them admitted.
 pub fn cause_at_new_label()
     ensures cause { (kind : Kind) (records : Records) (next : NextOperation) → Holds kind records
         → let now = operate next ∷ records in let sequence = named_sequence kind now in
-        extends_visibility now sequence ≡ true → cause_of kind now
+        extends_visibility now sequence ≡ true → sequence_cause kind now
         ≡ (if not (updates_admitted kind sequence) then Some cause.Update
         else cause_in (state_after kind (delivered_updates kind records next.by)) (acts_of next.op)) }
-    ensures admitted { (kind : Kind) (records : Records) (next : NextOperation) → ¬ (kind ≡ Rga) → Holds kind records
-        → is_kind kind (kind_of next.op) ≡ true
+    ensures admitted { (kind : Kind) (records : Records) (next : NextOperation) → admits_all kind ≡ true
+        → Holds kind records → is_kind kind (kind_of next.op) ≡ true
         → updates_admitted kind (named_sequence kind (operate next ∷ records)) ≡ true }
 {}
 
-/// Theorem: for all kinds except RGA, a new label that fits the order appends its update and applies it to its
+/// Theorem: for the kinds of `admits_all`, a new label that fits the order appends its update and applies it to its
 /// replica's state.
 pub fn states_after_label()
     ensures { (updates : List (Option Update)) (states : List State) (past : History) (next : NextOperation)
-        → ¬ (past.kind ≡ Rga) → AreStatesOf updates states past → next.by < length states
+        → admits_all past.kind ≡ true → AreStatesOf updates states past → next.by < length states
         → is_kind past.kind (kind_of next.op) ≡ true
         → let now = operate next ∷ past.records in extends_visibility now (named_sequence past.kind now) ≡ true
         → let states = states_after states next.by (update_in next.op) in

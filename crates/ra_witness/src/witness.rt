@@ -71,7 +71,8 @@ impl<O: NamedOrder> Witness<O> {
     ///
     /// One `place` and one `put` of the order; for a query one `State::admits`, for an update one `State::apply`. An
     /// RGA's insertion is inserted into the list of all elements besides. A replica's array by element number
-    /// (`LastUpdates`, or the marks of an RGA) is extended if necessary.
+    /// (`LastUpdates`, or the marks of an RGA) is extended if necessary. For a list that of `ListEffects::test` and
+    /// `ListEffects::add`.
     pub fn offer(&mut self, label: &Label, seen: &Seen<'_>) -> Result<Option<Cause>, NoMemory>
         // The label comes next after a history that the witness represents and that has fewer than `MOST_LABELS`
         // labels.
@@ -111,12 +112,15 @@ impl<O: NamedOrder> Witness<O> {
             return Ok(Some(Cause::Order));
         }
         let parts = parts(label)?;
-        let admitted = match self.kept.admit(label, parts) {
+        let admitted = match self.kept.admit(label, parts)? {
             Ok(admitted) => admitted,
             Err(cause) => return Ok(Some(cause)),
         };
         self.order.spare()?;
-        let steps = self.kept.add(label, admitted)?;
+        let steps = match self.kept.add(label, admitted)? {
+            Some(steps) => steps,
+            None => return Ok(Some(Cause::Order)),
+        };
         self.order.put(label, seen, place);
         self.steps = self.steps.saturating_add(steps);
         Ok(None)
@@ -131,9 +135,10 @@ impl<O: NamedOrder> Witness<O> {
     ///
     /// # Complexity
     ///
-    /// One `State::apply` for all kinds except RGA, however late the label is. For an RGA one step of the state, and a
-    /// walk back to the nearest present element, for each update that the delivery settles. A replica's array by
-    /// element number (`LastUpdates`, or the marks of an RGA) is extended if necessary.
+    /// One `State::apply` for all kinds except RGA and list, however late the label is; for a list one mark of an
+    /// element. For an RGA one step of the state, and a walk back to the nearest present element, for each update that
+    /// the delivery settles. A replica's array by element number (`LastUpdates`, or the marks of an RGA or a list) is
+    /// extended if necessary.
     pub fn deliver(&mut self, replica: u8, label: u32) -> Result<(), NoMemory>
         // The delivery is accepted after a history that the witness represents.
         requires { MayDeliver O.stands_for self.old replica label }
@@ -200,7 +205,8 @@ impl<O: NamedOrder> Witness<O> {
     /// # Complexity
     ///
     /// O(n), where `n` is the size of this replica's data. It consists of its state; for a register or an LWW set, the
-    /// last label of each element; for an RGA, a mark for each element, and the pending updates.
+    /// last label of each element; for an RGA, a mark for each element, and the pending updates; for a list, a mark for
+    /// each element, and the last read.
     pub fn join(&mut self, from: u8) -> Result<(), NoMemory>
         // The join of the next replica from this one is accepted after a history that the witness represents.
         requires { MayJoin O.stands_for self.old from }
@@ -241,6 +247,6 @@ impl<O: NamedOrder> Witness<O> {
         ensures { (past : History) → IsWitnessOf O.stands_for self.now past
             → IfOk result (λ parts. parts.items ≡ map ref_of (named_sequence past.kind past.records)) }
     {
-        part_refs(self.kept.allocator(), &self.order, self.kept.updates())
+        part_refs(self.kept.allocator(), &self.order, &self.kept)
     }
 }

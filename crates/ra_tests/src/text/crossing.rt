@@ -9,12 +9,13 @@ use std::process::Abort;
 const ROUNDS_OF_A_READ: u32 = 1_000;
 
 /// All kinds.
-pub const KINDS: [Kind; 5] = [
+pub const KINDS: [Kind; 6] = [
     Kind::Counter,
     Kind::Register,
     Kind::LwwSet,
     Kind::OrSet,
     Kind::Rga,
+    Kind::List,
 ];
 
 /// The text of a history that holds, as it is made, and what is written for it.
@@ -56,6 +57,7 @@ impl Crossing {
             Kind::LwwSet => "lwwset",
             Kind::OrSet => "orset",
             Kind::Rga => "rga",
+            Kind::List => "list",
         };
         let mut made = Crossing {
             kind,
@@ -170,6 +172,18 @@ fn body(alloc: Global, kind: Kind, update: Update, clock: u64) -> Result<String,
         (Kind::OrSet, Update::TakeOut(number)) => marked(alloc, "remove", number, '#', number),
         (Kind::Rga, Update::PutIn(number)) => marked(alloc, "after 0", number, '@', clock),
         (Kind::Rga, Update::TakeOut(number)) => numbered(alloc, "remove", number),
+        (Kind::List, Update::PutIn(number)) => insertion(alloc, number),
+        (Kind::List, Update::TakeOut(number)) => numbered(alloc, "remove", number),
+    }
+}
+
+// Returns an insertion into a list: of the four numbers that stay without neighbours, of each other one between the
+// first two.
+fn insertion(alloc: Global, number: u64) -> Result<String, AllocError> {
+    if number > 4 {
+        format!(in alloc; "insert 1 {number} 2")
+    } else {
+        format!(in alloc; "insert 0 {number} 0")
     }
 }
 
@@ -189,7 +203,7 @@ fn marked(
 }
 
 // Returns what is read after a round of removals, where this was b's update. At one clock b's stamp is the greater one.
-// A list has its latest insertion at its beginning.
+// An RGA has its latest insertion at its beginning. The insertions of a list agree with each order that has 1 before 2.
 fn read_after(alloc: Global, kind: Kind, last: Update) -> Result<String, AllocError> {
     match kind {
         Kind::Counter => String::from_str(alloc, "read 4"),
@@ -197,7 +211,7 @@ fn read_after(alloc: Global, kind: Kind, last: Update) -> Result<String, AllocEr
             let (Update::PutIn(number) | Update::TakeOut(number)) = last;
             numbered(alloc, "read", number)
         }
-        Kind::LwwSet | Kind::OrSet => String::from_str(alloc, "read 1,2,3,4"),
+        Kind::LwwSet | Kind::OrSet | Kind::List => String::from_str(alloc, "read 1,2,3,4"),
         Kind::Rga => String::from_str(alloc, "read 4,3,2,1"),
     }
 }

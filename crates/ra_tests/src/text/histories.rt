@@ -72,7 +72,7 @@ pub const OF_SIXTY_FOUR: &str =
     n43 n44 n45 n46 n47 n48 n49 n50 n51 n52 n53 n54 n55 n56 n57 n58 n59 n60 n61 n62 n63\n";
 
 // Rejected commands are not written, nor are verdicts and lines after a violation.
-static ROWS: [Row; 16] = [
+static ROWS: [Row; 18] = [
     Row {
         names: ABC,
         first: 3,
@@ -147,6 +147,22 @@ c got 0\nc got 1\nc got 2\nc read 2\n",
         kind: Kind::Rga,
         told: "RAH 1 rga\nreplicas a b c\na after 3 4 @1\na remove 4\n",
         written: "RAH 1 rga\nreplicas a b c\na after 3 4 @1\n",
+    },
+    Row {
+        names: ABC,
+        first: 3,
+        kind: Kind::List,
+        told: "RAH 1 list\nreplicas a b c\na insert 0 1 0\na insert 1 2 0\nb got 0\nb insert 0 3 1\na got 2\n\
+a read 3,1,2\nb after 0 9 @1\na remove 2\na insert 3 4 1 @1\na part 1\nb insert 3 5 1\n",
+        written: "RAH 1 list\nreplicas a b c\na insert 0 1 0\na insert 1 2 0\nb got 0\nb insert 0 3 1\na got 2\n\
+a read 3,1,2\na remove 2\na part 1\nb insert 3 5 1\n",
+    },
+    Row {
+        names: ABC,
+        first: 3,
+        kind: Kind::List,
+        told: "RAH 1 list\nreplicas a b c\na insert 0 1 0\na insert 1 2 0\na read 2,1\na read 1,2\n",
+        written: "RAH 1 list\nreplicas a b c\na insert 0 1 0\na insert 1 2 0\na read 2,1\n",
     },
     Row {
         names: ABC,

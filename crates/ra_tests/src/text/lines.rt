@@ -2,8 +2,9 @@
 ghost use Rattle.ra_history_lines.specs.Lines.{HasNames};
 
 use super::histories::OF_SIXTY_FOUR;
+use crate::commands::{bare, elements_of};
 use ra_history_text::{Item, LineFault, Names, NamesFault, Reading};
-use ra_labels::{Command, Op};
+use ra_labels::{Command, Insertion, ListOp, Op};
 use std::alloc::Global;
 use std::process::Abort;
 
@@ -67,6 +68,67 @@ fn tells_a_kind(rt: &impl Abort, reading: &mut Reading, line: &[u8]) {
 }
 
 const ONE: &str = "RAH 2 counter\nreplicas a\n";
+
+const OF_LIST: &str = "RAH 1 list\nreplicas a\n";
+
+const OF_RGA: &str = "RAH 1 rga\nreplicas a\n";
+
+const OF_SET: &str = "RAH 2 orset\nreplicas a\n";
+
+// Asserts that in a history of a list, the line is of this operation.
+fn is_list_operation(rt: &impl Abort, alloc: Global, line: &str, op: ListOp) {
+    let mut reading = reading_of(rt, alloc, OF_LIST);
+    is_command(
+        rt,
+        &command_of(rt, &mut reading, line),
+        &bare(0, Op::List(op)),
+    );
+}
+
+// The numbers of an insertion are the left neighbour, the element and the right neighbour, and lists have any order.
+#[test]
+fn reads_the_operations_of_a_list(rt: HostRuntime) {
+    let insertion = Insertion {
+        left: 1,
+        element: 2,
+        right: 3,
+    };
+    let shown = elements_of(&rt, rt.alloc(), &[3, 1, 2]);
+    let some = elements_of(&rt, rt.alloc(), &[5, 5]);
+    is_list_operation(&rt, rt.alloc(), "a insert 1 2 3", ListOp::Insert(insertion));
+    is_list_operation(&rt, rt.alloc(), "a remove 7", ListOp::Remove(7));
+    is_list_operation(&rt, rt.alloc(), "a read 3,1,2", ListOp::Read(shown));
+    is_list_operation(&rt, rt.alloc(), "a part 5,5", ListOp::Part(some));
+}
+
+// The words `insert` and `part` are read in lists alone; the words of the other kinds, in lists too.
+#[test]
+fn reads_the_words_of_a_list_in_lists_alone(rt: HostRuntime) {
+    for (text, line, is_line) in [
+        (OF_LIST, "a insert 0 4294967295 0", true),
+        (OF_LIST, "a insert 0 4294967296 0", false),
+        (OF_LIST, "a insert 0 1 0 @1", true),
+        (OF_LIST, "a insert 0 1", false),
+        (OF_LIST, "a insert 0 1 0 0", false),
+        (OF_LIST, "a insert 0 1 00", false),
+        (OF_LIST, "a insert 0,1,0", false),
+        (OF_LIST, "a part -", true),
+        (OF_LIST, "a part", false),
+        (OF_LIST, "a part 5 6", false),
+        (OF_LIST, "a remove 1 #-", true),
+        (OF_LIST, "a after 0 1 @1", true),
+        (OF_LIST, "a inc", true),
+        (OF_RGA, "a insert 0 1 0", false),
+        (OF_RGA, "a part -", false),
+        (OF_SET, "a insert 0 1 0", false),
+        (OF_SET, "a part 1", false),
+        (ONE, "a insert 0 1 0", false),
+        (ONE, "a part 1", false),
+    ] {
+        let mut reading = reading_of(&rt, rt.alloc(), text);
+        assert!(rt; is_none(&mut reading, line) != is_line, "{line}");
+    }
+}
 
 // Asserts that the line joins this replica from that one, and that its first name is the new one.
 fn joins(rt: &impl Abort, alloc: Global, line: &str, replica: u8, from: u8) {

@@ -4,6 +4,7 @@ ghost use Rattle.std.specs.Ordering.{is_lt};
 ghost use Rattle.std.specs.declared.cmp.Ordering.TheVariants.{Less};
 ghost use Rattle.ra_labels.specs.declared.kind.Kind.{Kind};
 ghost use Rattle.ra_labels.specs.declared.kind.Kind.TheVariants.{Counter, OrSet, Rga};
+ghost use Rattle.ra_labels.specs.declared.kind.Kind.TheVariants as kinds;
 ghost use Rattle.ra_labels.specs.declared.operation.Update.{Update};
 ghost use Rattle.ra_labels.specs.declared.operation.Update.TheVariants.{After, RgaRemove};
 ghost use Rattle.ra_labels.specs.declared.label.Stamp.{Stamp};
@@ -38,6 +39,7 @@ pub fn label_position_by_order()
 /// Theorem: in the kinds with timestamp order, labels with different stamps of their own are ordered by these stamps.
 pub fn stamped_labels_sorted()
     ensures { (kind : Kind) (records : Records) (l m : Label) (s t : Stamp) → ¬ (kind ≡ Counter) → ¬ (kind ≡ OrSet)
+        → ¬ (kind ≡ kinds.List)
         → l.stamp ≡ Some s → m.stamp ≡ Some t → ¬ (s ≡ t) → label_cmp kind records l m ≡ stamp_cmp s t }
 {}
 

@@ -1,23 +1,31 @@
 //! Theorems about when records hold, and about their fault.
-ghost use Rattle.std.specs.Prelude.{◌≡◌, ◌↔◌, true, false, ℕ, ◌<◌, ◌++◌, Some, None};
+ghost use Rattle.std.specs.Prelude.{◌≡◌, ◌↔◌, ◌⊎◌, true, false, ℕ, ◌<◌, ◌++◌, Some, None};
 ghost use Rattle.ra_labels.specs.declared.kind.Kind.{Kind};
+ghost use Rattle.ra_labels.specs.declared.kind.Kind.TheVariants as kinds;
 ghost use Rattle.ra_labels.specs.declared.reply.Fault.{Fault};
 ghost use Rattle.ra_labels.specs.declared.reply.Cause.TheVariants.{Order, Update, Query};
 ghost use Rattle.ra_labels.specs.Records.{Records, label_count, records_to};
+ghost use Rattle.ra_labels.specs.ListHistory.{keeps_an_order};
 ghost use Rattle.ra_labels.specs.Linearization.{extends_visibility, updates_admitted, queries_admitted};
 ghost use Rattle.ra_labels.specs.NamedOrder.{named_sequence};
-ghost use Rattle.ra_labels.specs.Fault.{Holds, cause_of, fault_of, records_before_fault};
+ghost use Rattle.ra_labels.specs.Fault.{Holds, sequence_cause, cause_of, fault_of, records_before_fault};
 ghost use Rattle.ra_labels.specs.TheoremTerms.{IsLeastFault};
 
-/// Theorem: records hold exactly if their named sequence fails none of the three conditions.
+/// Theorem: records hold exactly if their named sequence fails none of the conditions, and an order explains
+/// the elements of a list.
 pub fn cause_none_iff_holds()
     ensures { (kind : Kind) (records : Records) → (cause_of kind records ≡ None) ↔ Holds kind records }
 {}
 
-/// Theorem: the cause is the first of the three conditions that the named sequence fails.
+/// Theorem: the cause is the first of the three conditions that the named sequence fails; or it meets them, and no
+/// order explains the elements of a list.
 pub fn cause_is_first_failed()
     ensures order { (kind : Kind) (records : Records) → (cause_of kind records ≡ Some Order)
-        ↔ (extends_visibility records (named_sequence kind records) ≡ false) }
+        ↔ ((extends_visibility records (named_sequence kind records) ≡ false)
+        ⊎ ((extends_visibility records (named_sequence kind records) ≡ true)
+        × (updates_admitted kind (named_sequence kind records) ≡ true)
+        × (queries_admitted kind records (named_sequence kind records) ≡ true)
+        × (keeps_an_order kind records ≡ false))) }
     ensures update { (kind : Kind) (records : Records) → (cause_of kind records ≡ Some Update)
         ↔ ((extends_visibility records (named_sequence kind records) ≡ true)
         × (updates_admitted kind (named_sequence kind records) ≡ false)) }
@@ -25,6 +33,19 @@ pub fn cause_is_first_failed()
         ↔ ((extends_visibility records (named_sequence kind records) ≡ true)
         × (updates_admitted kind (named_sequence kind records) ≡ true)
         × (queries_admitted kind records (named_sequence kind records) ≡ false)) }
+{}
+
+/// Theorem: the named sequence fails no condition exactly if it meets all three.
+pub fn sequence_cause_none_iff()
+    ensures { (kind : Kind) (records : Records) → (sequence_cause kind records ≡ None)
+        ↔ ((extends_visibility records (named_sequence kind records) ≡ true)
+        × (updates_admitted kind (named_sequence kind records) ≡ true)
+        × (queries_admitted kind records (named_sequence kind records) ≡ true)) }
+{}
+
+/// Theorem: of no kind but the list is it asked whether an order explains the elements.
+pub fn order_only_of_lists()
+    ensures { (kind : Kind) (records : Records) → ¬ (kind ≡ kinds.List) → keeps_an_order kind records ≡ true }
 {}
 
 /// Theorem: if records have no fault, they hold.

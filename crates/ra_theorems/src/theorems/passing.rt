@@ -1,7 +1,6 @@
 //! Theorems about the updates of the labels that pass a test, in the named order.
 ghost use Rattle.std.specs.Prelude.{◌≡◌, true, false, ◌||◌, ℕ, Bool, ◌+◌, ◌≤◌, List, ◌∷◌, ◌++◌, length, Contains};
 ghost use Rattle.ra_labels.specs.declared.kind.Kind.{Kind};
-ghost use Rattle.ra_labels.specs.declared.kind.Kind.TheVariants.{Rga};
 ghost use Rattle.ra_labels.specs.declared.operation.Update.{Update};
 ghost use Rattle.ra_labels.specs.declared.label.Label.{Label};
 ghost use Rattle.ra_labels.specs.declared.command.Command.TheVariants.{Deliver, Join};
@@ -10,6 +9,7 @@ ghost use Rattle.ra_labels.specs.Visibility.{is_update, is_update_at, has_delive
 ghost use Rattle.ra_labels.specs.Specification.{is_admitted};
 ghost use Rattle.ra_labels.specs.Linearization.{visible_updates, updates_admitted};
 ghost use Rattle.ra_labels.specs.NamedOrder.{named_labels, named_sequence};
+ghost use Rattle.ra_labels.specs.TheoremTerms.{admits_all};
 ghost use Rattle.ra_labels.specs.Insertion.{updates_among, updates_passing, or_label, delivered_updates, HasUpdate};
 ghost use Rattle.ra_labels.specs.Pending.{inserts_element, is_present_element};
 ghost use Rattle.ra_labels.specs.HistorySoFar.{NextOperation, operate};
@@ -37,9 +37,10 @@ pub fn updates_passing_monotone()
         → length (updates_passing kind records passes) ≤ length (updates_passing kind records others) }
 {}
 
-/// Theorem: for all kinds except RGA, the updates of the labels that pass are admitted if those of all labels are.
+/// Theorem: for the kinds of `admits_all`, the updates of the labels that pass are admitted if those of all labels
+/// are.
 pub fn updates_passing_admitted()
-    ensures { (kind : Kind) (records : Records) (passes : ℕ → Bool) → ¬ (kind ≡ Rga)
+    ensures { (kind : Kind) (records : Records) (passes : ℕ → Bool) → admits_all kind ≡ true
         → updates_admitted kind (named_sequence kind records) ≡ true
         → is_admitted kind (updates_passing kind records passes) ≡ true }
 {}

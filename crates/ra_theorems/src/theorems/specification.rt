@@ -3,7 +3,6 @@ ghost use Rattle.std.specs.Prelude.{◌≡◌, ◌↔◌, true, false, ℕ, ℤ,
 ghost use Rattle.std.specs.List.{list_all};
 ghost use Rattle.ra_labels.specs.declared.kind.Kind.{Kind};
 ghost use Rattle.ra_labels.specs.declared.kind.Kind.TheVariants as kind;
-ghost use Rattle.ra_labels.specs.declared.kind.Kind.TheVariants.{Rga};
 ghost use Rattle.ra_labels.specs.declared.operation.Op.{Op};
 ghost use Rattle.ra_labels.specs.declared.operation.Update.{Update};
 ghost use Rattle.ra_labels.specs.declared.operation.Update.TheVariants.{Write, LwwAdd, LwwRemove};
@@ -14,7 +13,7 @@ ghost use Rattle.ra_labels.specs.Lists.{rises};
 ghost use Rattle.ra_labels.specs.Rewriting.{acts_of};
 ghost use Rattle.ra_labels.specs.Answer.{kind_of, is_kind};
 ghost use Rattle.ra_theorems.specs.Counters.{increments_in, decrements_in};
-ghost use Rattle.ra_labels.specs.TheoremTerms.{kind_of_state, kind_of_update, kind_of_query, kind_of_act, NoneActsOn};
+ghost use Rattle.ra_labels.specs.TheoremTerms.{kind_of_state, kind_of_update, kind_of_query, kind_of_act, NoneActsOn, admits_all};
 
 /// Theorem: the state before any update is the initial state.
 pub fn state_after_nil()
@@ -33,11 +32,12 @@ pub fn state_kind()
         → kind_of_state state ≡ kind }
 {}
 
-/// Theorem: admitted updates belong to the kind. For all kinds except RGA, all updates of the kind are admitted.
+/// Theorem: admitted updates belong to the kind. For the kinds of `admits_all`, all updates of the kind are
+/// admitted.
 pub fn kind_updates_admitted()
     ensures only { (kind : Kind) (updates : List Update) → is_admitted kind updates ≡ true
         → list_all (λ update. is_kind kind (kind_of_update update)) updates ≡ true }
-    ensures exactly { (kind : Kind) (updates : List Update) → ¬ (kind ≡ Rga)
+    ensures exactly { (kind : Kind) (updates : List Update) → admits_all kind ≡ true
         → is_admitted kind updates ≡ list_all (λ update. is_kind kind (kind_of_update update)) updates }
 {}
 

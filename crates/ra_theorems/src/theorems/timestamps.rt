@@ -28,8 +28,8 @@ pub fn timestamp_persists()
         → timestamp_of (later ++ records) label ≡ timestamp_of records label }
 {}
 
-/// Theorem: the rank of a label is the lowest for counter and OR-Set, which have execution order. For register, LWW set
-/// and RGA, which have timestamp order, it is the timestamp.
+/// Theorem: the rank of a label is the lowest for counter and OR-Set, which have execution order as lists do. For
+/// register, LWW set and RGA, which have timestamp order, it is the timestamp.
 pub fn kind_order()
     ensures counter { (records : Records) (label : Label) → rank_of kind.Counter records label ≡ lowest_rank }
     ensures register { (records : Records) (label : Label)

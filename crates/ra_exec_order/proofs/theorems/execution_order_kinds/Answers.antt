@@ -1,4 +1,4 @@
-use Rattle.ra_exec_order.proofs.TheoremIndex.{execution_order_kinds-counter, execution_order_kinds-or_set}
+use Rattle.ra_exec_order.proofs.TheoremIndex.{execution_order_kinds-counter, execution_order_kinds-or_set, execution_order_kinds-list}
 use Rattle.ra_exec_order.proofs.theorems.execution_order_kinds.Goals as goal
 
 pub returns-clause-counter : goal.returns-clause-counter
@@ -6,3 +6,6 @@ returns-clause-counter c = execution_order_kinds-counter
 
 pub returns-clause-or_set : goal.returns-clause-or_set
 returns-clause-or_set c = execution_order_kinds-or_set
+
+pub returns-clause-list : goal.returns-clause-list
+returns-clause-list c = execution_order_kinds-list

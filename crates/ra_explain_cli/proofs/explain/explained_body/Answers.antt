@@ -18,6 +18,7 @@ returns c =
         undelivered = of.undelivered;
         rejected = of.rejected;
         violation = of.violation;
+        conflict = of.conflict;
         remedies = of.remedies;
       },
       subst (λ (old : List ℕ). PutsExplanation c.args.form e c.args.names.now old new) c.new-body.ensures.items

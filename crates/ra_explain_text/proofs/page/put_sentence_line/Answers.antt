@@ -9,7 +9,7 @@ pub returns : goal.returns
 returns c =
     let v = c.args.violation.now in
     let label = codes " is a violation (label " ++ decimal v.fault.label in
-    let why = reason_words v.fault.cause in
+    let why = reason_words c.args.kind v.fault.cause in
     put_then c.put-2.result c.args.line.now.items c.put_line.new.out.items c.put-2.new.out.items (line_words v.place)
     (label ++ (codes "): " ++ why)) c.in_ok-put_line.ensures
     (put_then c.put-2.result c.put_line.new.out.items c.put_numbered.new.out.items c.put-2.new.out.items label

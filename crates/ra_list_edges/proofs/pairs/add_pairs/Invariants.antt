@@ -1,9 +1,9 @@
 use Rattle.std.proofs.Common.{ℕ, take}
 use Rattle.std.specs.Prelude.{Contains}
 use Rattle.std.specs.List.Sorted.{IsPermutation}
-use Rattle.ra_list_order.specs.declared.edge.Edge.{Edge}
-use Rattle.ra_list_order.specs.Edges.{HasEdge}
-use Rattle.ra_list_order.specs.Reads.{edges_of_read}
+use Rattle.ra_labels.specs.declared.edge.Edge.{Edge}
+use Rattle.ra_labels.specs.Edges.{HasEdge}
+use Rattle.ra_labels.specs.Reads.{edges_of_read}
 use Rattle.ra_list_edges.specs.Pairs.{AddsSome}
 use Rattle.ra_list_edges.proofs.pairs.add_pairs.Given as goal
 

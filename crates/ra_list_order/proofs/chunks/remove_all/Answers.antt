@@ -3,7 +3,7 @@ use Rattle.std.specs.BTreeMap.{get}
 use Rattle.std.specs.Ordering.{nat_cmp}
 use Rattle.std.proofs.lemmas.List.Elements.{Contains-get_or}
 use Rattle.ra_list_order.specs.Chunks.{Chunk, no_chunk}
-use Rattle.ra_list_order.specs.Listing.{without}
+use Rattle.ra_labels.specs.Listing.{without}
 use Rattle.ra_list_order.proofs.Members.{read_at}
 use Rattle.ra_list_order.proofs.Removals.{removed_none, removed_more, only_place}
 use Rattle.ra_list_order.proofs.Spans.{has_group, place_read}

@@ -1,7 +1,7 @@
 use Rattle.std.proofs.Common.{take}
 use Rattle.std.specs.BTreeMap.{get}
 use Rattle.std.specs.Ordering.{nat_cmp}
-use Rattle.ra_list_order.specs.Edges.{EachOnce}
+use Rattle.ra_labels.specs.Edges.{EachOnce}
 use Rattle.ra_list_order.specs.Gathering.{IsIndex}
 use Rattle.ra_list_order.proofs.cut.index_of.Given as goal
 

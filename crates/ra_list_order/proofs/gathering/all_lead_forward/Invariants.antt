@@ -1,7 +1,7 @@
 use Rattle.std.proofs.Common.{take}
 use Rattle.std.specs.Prelude.{Contains}
-use Rattle.ra_list_order.specs.declared.edge.Edge.{Edge}
-use Rattle.ra_list_order.specs.Edges.{IsBefore}
+use Rattle.ra_labels.specs.declared.edge.Edge.{Edge}
+use Rattle.ra_labels.specs.Edges.{IsBefore}
 use Rattle.ra_list_order.specs.Plans.{order_by}
 use Rattle.ra_list_order.proofs.gathering.all_lead_forward.Given as goal
 

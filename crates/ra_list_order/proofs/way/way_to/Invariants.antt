@@ -1,6 +1,6 @@
 use Rattle.std.proofs.Common.{◌≡◌, true, ◌≤◌, length, reverse, take}
 use Rattle.std.specs.Prelude.{All, Contains}
-use Rattle.ra_list_order.specs.Edges.{IsChain}
+use Rattle.ra_labels.specs.Edges.{IsChain}
 use Rattle.ra_list_order.specs.Marks.{is_marked}
 use Rattle.ra_list_order.proofs.way.way_to.Given as goal
 

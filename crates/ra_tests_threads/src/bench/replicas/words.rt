@@ -1,6 +1,6 @@
 //! Updates and reads in the form of a history's lines.
 
-use ra_labels::{Elements, Op};
+use ra_labels::{Elements, Insertion, ListOp, Op};
 use std::alloc::{AllocError, Global};
 
 /// Returns an update's line, or what a read shows.
@@ -29,6 +29,21 @@ fn body(alloc: Global, op: &Op) -> Result<String, AllocError> {
         }
         Op::After { anchor, element } => format!(in alloc; "after {anchor} {element}"),
         Op::LwwRead(list) | Op::OrRead(list) | Op::RgaRead(list) => numbers(alloc, list),
+        Op::List(op) => list_body(alloc, op),
+    }
+}
+
+fn list_body(alloc: Global, op: &ListOp) -> Result<String, AllocError> {
+    match op {
+        ListOp::Insert(
+            Insertion {
+                left,
+                element,
+                right,
+            },
+        ) => format!(in alloc; "insert {left} {element} {right}"),
+        ListOp::Remove(element) => format!(in alloc; "remove {element}"),
+        ListOp::Read(list) | ListOp::Part(list) => numbers(alloc, list),
     }
 }
 

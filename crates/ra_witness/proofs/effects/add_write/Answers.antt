@@ -1,6 +1,6 @@
 use Rattle.std.proofs.Common.{◌∙◌, sym, arith}
 use Rattle.ra_witness.specs.Overriding.{updates_written}
-use Rattle.ra_witness.proofs.CommutingKinds.{not_rga-overriding, can_take, stamp_missing}
+use Rattle.ra_witness.proofs.CommutingKinds.{admits-overriding, can_take, stamp_missing}
 use Rattle.ra_witness.proofs.OverridingKinds.{writes_counted, overriding_same}
 use Rattle.ra_witness.proofs.TakenWrites.{overriding_taken, overriding_asked}
 use Rattle.ra_witness.proofs.effects.add_write.Goals as goal
@@ -27,7 +27,7 @@ add-requires-clause-can c =
     let may = c.requires in
     let kept = c.args.kept.now in
     can_take (updates_written kept.writes.items) kept.states.items may.past may.stands.states may.next c.args.label.now _
-    (not_rga-overriding may.past.kind may.stands.one) may.offered (sym c.in-Some.is ∙ may.update_is)
+    (admits-overriding may.past.kind may.stands.one) may.offered (sym c.in-Some.is ∙ may.update_is)
 
 pub returns-in_err-add-clause-same : goal.returns-in_err-add-clause-same
 returns-in_err-add-clause-same c = λ past stands.

@@ -1,5 +1,7 @@
-use Rattle.std.proofs.Common.{rules, sym, subst}
-use Rattle.ra_list_model.specs.declared.operation.ListOp.TheVariants as op
+use Rattle.std.proofs.Common.{rules, sym, subst, Option, None, Some}
+use Rattle.std.specs.Prelude.{IfSome, MatchOption}
+use Rattle.std.proofs.lemmas.Result.{IfOk-weaker}
+use Rattle.ra_labels.specs.declared.list_operation.ListOp.TheVariants as op
 use Rattle.ra_list_effects.specs.declared.list_effects.Found.TheVariants as found
 use Rattle.ra_list_effects.specs.Past.{with_operation}
 use Rattle.ra_list_effects.specs.Effects.{AreEffectsOf, IsFoundFor}
@@ -17,3 +19,14 @@ pub returns-in-Part-clause-added : goal.returns-in-Part-clause-added
 returns-in-Part-clause-added c = λ past stands right.
     let added = c.add_part.ensures.added past c.args.replica stands in
     search (rules, added)
+
+-- a cycle leaves the past that was represented
+still_same : {A : Type 0} (P : Type 0) (Q : A → Type 0) (R : Type 0) (found : Option A) → MatchOption found R (λ x. P × Q x)
+    → IfSome found (λ x. P)
+still_same P Q R None both = tt
+still_same P Q R (Some x) both = both.0
+
+pub returns-in-Part-clause-unchanged : goal.returns-in-Part-clause-unchanged
+returns-in-Part-clause-unchanged c = λ past stands.
+    IfOk-weaker c.add_part.result _ _ (λ found both. still_same _ _ _ found both)
+    (c.add_part.ensures.added past c.args.replica stands)

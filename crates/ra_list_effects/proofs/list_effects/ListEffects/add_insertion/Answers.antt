@@ -1,7 +1,7 @@
 use Rattle.std.proofs.Common.{arith, ◌≡◌, ◌<◌, ◌++◌, [], ◌∷◌, length, Some, sym, ap, ◌∙◌, subst}
 use Rattle.std.specs.Prelude.{Contains}
-use Rattle.ra_list_edges.specs.Insertion.{neighborhood}
-use Rattle.ra_list_order.specs.Reads.{edges_of_read}
+use Rattle.ra_labels.specs.Neighborhood.{neighborhood}
+use Rattle.ra_labels.specs.Reads.{edges_of_read}
 use Rattle.ra_list_witness.specs.ListWitness.{view_at}
 use Rattle.ra_list_effects.specs.declared.list_effects.Change.TheVariants.{Show}
 use Rattle.ra_list_effects.specs.Effects.{AreEffectsOf}
@@ -45,6 +45,17 @@ returns-in-Ok-Some-clause-added c = λ past stands right.
       subst (λ cs. AreEffectsOf (effects_of new cs) past) (sym back) (same_past old new changes past mine elements marks answer.0),
       cycle_of_past past.edges old.edges c.args.label (neighborhood c.args.insertion) c.in-Ok-Some.cycle.items mine.required answer.1,
     )
+
+pub returns-in-Ok-Some-clause-unchanged : goal.returns-in-Ok-Some-clause-unchanged
+returns-in-Ok-Some-clause-unchanged c = λ past stands.
+    let mine = subst (λ e. AreEffectsOf e past) (sym c.self.view_is) stands in
+    let changes = c.self.inside.changes.items in
+    let elements = rw c.in-Ok-Some.field-0-is at c.in-Ok-Some.ensures.elements in
+    let marks = rw c.in-Ok-Some.field-0-is at c.in-Ok-Some.ensures.marks in
+    let answer = rw c.in-Ok-Some.field-0-is at c.in-Ok-Some.ensures.edges in
+    let back = c.truncate.ensures.items ∙ without_last changes c.push.new.self.items _ c.len-count.result (omega (arith, c.len-count.ensures, c.self.inside.changes.ok)) c.in_ok-push.ensures.items in
+    subst (λ cs. AreEffectsOf (effects_of c.insert.new.self cs) past) (sym back)
+    (same_past c.self.inside.witness c.insert.new.self changes past mine elements marks answer.0)
 
 pub returns-in-Err-clause-failed : goal.returns-in-Err-clause-failed
 returns-in-Err-clause-failed c = λ past stands.

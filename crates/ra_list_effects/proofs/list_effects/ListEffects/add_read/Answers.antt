@@ -1,5 +1,5 @@
 use Rattle.std.proofs.Common.{arith, sym, ◌∙◌, subst}
-use Rattle.ra_list_order.specs.Reads.{edges_of_read}
+use Rattle.ra_labels.specs.Reads.{edges_of_read}
 use Rattle.ra_list_effects.specs.Effects.{AreEffectsOf}
 use Rattle.ra_list_effects.proofs.AddedOperations.{effects_of, with_read, same_past, after_read, without_last, cycle_of_past}
 use Rattle.ra_list_effects.proofs.list_effects.ListEffects.add_read.Goals as goal

@@ -2,7 +2,7 @@ use Rattle.std.proofs.Common.{◌≡◌, sym, subst}
 use Rattle.std.specs.Prelude.{IfOk}
 use Rattle.std.specs.Result.{result_err}
 use Rattle.ra_list_witness.specs.ListWitness.{view_at}
-use Rattle.ra_list_model.specs.declared.operation.ListOp.TheVariants as op
+use Rattle.ra_labels.specs.declared.list_operation.ListOp.TheVariants as op
 use Rattle.ra_list_effects.specs.Past.{cause_at}
 use Rattle.ra_list_effects.specs.Effects.{AreEffectsOf}
 use Rattle.ra_list_effects.proofs.JudgedReads.{read_right, read_wrong}

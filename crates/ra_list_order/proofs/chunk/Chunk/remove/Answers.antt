@@ -2,7 +2,7 @@ use Rattle.std.proofs.Common.{ℕ, ◌∙◌, ap, rules}
 use Rattle.std.specs.Prelude.{◌==◌, not}
 use Rattle.std.proofs.lemmas.Fn.{filter_same}
 use Rattle.ra_list_order.specs.Chunks.{Chunk}
-use Rattle.ra_list_order.specs.Listing.{without}
+use Rattle.ra_labels.specs.Listing.{without}
 use Rattle.ra_list_order.proofs.chunk.Chunk.remove.Goals as goal
 
 pub returns-clause-elements : goal.returns-clause-elements

@@ -1,7 +1,7 @@
 use Rattle.std.proofs.Common.{◌≡◌, ◌<◌, ◌-◌, ◌++◌, ◌∷◌, [], length, get_or, unwrap_or, subst, ap, ◌∙◌, arith}
 use Rattle.std.specs.BTreeMap.{get}
 use Rattle.std.specs.Ordering.{nat_cmp}
-use Rattle.ra_list_order.specs.declared.edge.Edge.{Edge}
+use Rattle.ra_labels.specs.declared.edge.Edge.{Edge}
 use Rattle.ra_list_order.specs.EdgePool.{no_edge}
 use Rattle.ra_list_order.specs.Sweep.{PushesEdgesFrom}
 use Rattle.ra_list_order.proofs.EdgePools.{walking_none, walking_more, walking_done, walking_within, walking_falls}

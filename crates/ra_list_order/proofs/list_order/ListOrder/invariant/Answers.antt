@@ -1,5 +1,5 @@
 use Rattle.std.proofs.Common.{subst}
-use Rattle.ra_list_order.specs.Edges.{EachOnce, Extends}
+use Rattle.ra_labels.specs.Edges.{EachOnce, Extends}
 use Rattle.ra_list_order.specs.ListOrder.{ListOrder}
 use Rattle.ra_list_order.proofs.list_order.ListOrder.invariant.Goals as goal
 

@@ -3,7 +3,7 @@ use Rattle.std.specs.BTreeMap.{get}
 use Rattle.std.specs.Ordering.{nat_cmp}
 use Rattle.std.specs.Prelude.{Contains, IsSome}
 use Rattle.ra_list_order.specs.Chunks.{joined, AreMovedToChunks}
-use Rattle.ra_list_order.specs.Edges.{EachOnce}
+use Rattle.ra_labels.specs.Edges.{EachOnce}
 use Rattle.ra_list_order.proofs.Packings.{packed_once, packed_known, grouped_packed}
 use Rattle.ra_list_order.proofs.sequence.Sequence.pack.Goals as goal
 

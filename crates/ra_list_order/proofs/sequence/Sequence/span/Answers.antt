@@ -1,7 +1,7 @@
 use Rattle.std.proofs.Common.{◌<◌, ◌∙◌, length, sym, ap, subst}
 use Rattle.std.proofs.lemmas.Bool.{eqb-true}
 use Rattle.ra_list_order.specs.Chunks.{Chunk, no_chunk, chunk_at}
-use Rattle.ra_list_order.specs.Edges.{IsBefore}
+use Rattle.ra_labels.specs.Edges.{IsBefore}
 use Rattle.ra_list_order.proofs.Members.{read_at}
 use Rattle.ra_list_order.proofs.Spans.{before_by_chunks, before_in_chunk, span_is}
 use Rattle.ra_list_order.proofs.sequence.Sequence.span.Goals as goal

@@ -2,7 +2,7 @@ use Rattle.std.proofs.Common.{◌≡◌, ℕ, ◌+◌, ◌-◌, ◌<◌, ◌≤�
 use Rattle.std.proofs.lemmas.List.{get_or_default}
 use Rattle.std.proofs.lemmas.List.Sorted.{Contains-permutation}
 use Rattle.ra_list_edges.specs.Pairs.{AddsPairs, with_pairs}
-use Rattle.ra_list_order.specs.Edges.{IsCycle}
+use Rattle.ra_labels.specs.Edges.{IsCycle}
 use Rattle.ra_list_replica.specs.Numbers.{AreNumbersOf}
 use Rattle.ra_list_replica.specs.View.{mark_at}
 use Rattle.ra_list_replica.specs.Listing.{AreAsLast}

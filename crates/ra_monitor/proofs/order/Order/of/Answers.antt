@@ -1,6 +1,6 @@
 use Rattle.std.proofs.Common.{sym, subst, inl, inr}
 use Rattle.ra_visibility.specs.Order.{IsByExecution, IsByTimestamp}
-use Rattle.ra_exec_order.proofs.TheoremIndex.{execution_order_kinds-counter, execution_order_kinds-or_set}
+use Rattle.ra_exec_order.proofs.TheoremIndex.{execution_order_kinds-counter, execution_order_kinds-or_set, execution_order_kinds-list}
 use Rattle.ra_time_order.proofs.TheoremIndex.{timestamp_order_kinds-register, timestamp_order_kinds-lww_set, timestamp_order_kinds-rga}
 use Rattle.ra_monitor.proofs.order.Order.of.Goals as goal
 
@@ -8,7 +8,10 @@ pub returns-in-Counter : goal.returns-in-Counter
 returns-in-Counter c =
     let by_execution : IsByExecution c.args.kind = elim c.in-Counter.is [
       | inl counter ↦ subst IsByExecution (sym counter) execution_order_kinds-counter
-      | inr or_set ↦ subst IsByExecution (sym or_set) execution_order_kinds-or_set
+      | inr other ↦ elim other [
+        | inl or_set ↦ subst IsByExecution (sym or_set) execution_order_kinds-or_set
+        | inr list ↦ subst IsByExecution (sym list) execution_order_kinds-list
+      ]
     ] in
     c.new.ensures.stands c.args.kind c.args.replicas by_execution
 

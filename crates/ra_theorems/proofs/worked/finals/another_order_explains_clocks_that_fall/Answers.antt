@@ -13,6 +13,7 @@ other = record {
   visibility = refl;
   updates = refl;
   queries = refl;
+  order = refl;
 }
 
 pub returns-clause-other : goal.returns-clause-other

@@ -1,4 +1,4 @@
-use Rattle.std.proofs.Common.{◌≡◌, ◌∙◌, refl, sym, ap, subst}
+use Rattle.std.proofs.Common.{◌∙◌, refl, sym, ap, subst}
 use Rattle.std.specs.Prelude.{is_some, IfSome, IfOk}
 use Rattle.std.specs.Result.{result_err}
 use Rattle.ra_labels.specs.declared.kind.Kind.TheVariants as variant

@@ -3,11 +3,9 @@ use Rattle.std.specs.List.{slice_get}
 use Rattle.std.specs.Ordering.{is_le}
 use Rattle.std.proofs.lemmas.Bool.{true≢false, false≢true}
 use Rattle.std.proofs.lemmas.Option.{slice_get_read}
-use Rattle.ra_labels.specs.declared.label.Stamp.{Stamp}
 use Rattle.ra_labels.specs.NamedOrder.{stamp_cmp}
 use Rattle.ra_rga_elements.specs.ElementList.{Arrival, arrival_at}
 use Rattle.ra_rga_replica.specs.Edits.{element_at}
-use Rattle.ra_rga_replica.specs.declared.replica_list.ReplicaList.{ReplicaList}
 use Rattle.ra_rga_replica.proofs.TheoremIndex.{next_label_rank}
 use Rattle.ra_witness.proofs.AdmittedElements.{removal_admitted, removal_needs, unclocked}
 use Rattle.ra_witness.proofs.rga.Rga.admit_removal.Goals as goal

@@ -1,8 +1,11 @@
-use Rattle.std.proofs.Common.{◌∷◌, true, false, refl, ap, ◌∙◌, arith}
+use Rattle.std.proofs.Common.{◌∷◌, true, false, refl, sym, ap, ◌∙◌, subst, arith}
+use Rattle.std.specs.Result.{result_err}
+use Rattle.std.proofs.lemmas.Option.{none-some}
 use Rattle.ra_witness.specs.States.{steps_of}
-use Rattle.ra_witness.proofs.OfferedLabels.{from_not, is_offered, comes_offered, order_fails, listed_count, update_known, all_admitted, same_op, taken}
+use Rattle.ra_witness.proofs.OfferedLabels.{cause_in_sequence, cause_of_elements, from_not, is_offered, comes_offered, order_fails, listed_count, update_known, all_admitted, same_op, taken, kept_same, in_some, in_some_part, in_none}
 use Rattle.ra_witness.proofs.witness.Witness.offer.Goals as goal
 use Rattle.ra_labels.specs.HistorySoFar.{operate}
+use Rattle.ra_witness.specs.Effects.{AreEffectsOf, IsFoundIn}
 
 pub returns-then-not-place-clause-cause : goal.returns-then-not-place-clause-cause
 returns-then-not-place-clause-cause g c = λ past next stands comes.
@@ -28,8 +31,15 @@ returns-in-Err-clause-cause g c = λ past next stands comes.
     let offered = comes_offered g.O.NamedOrder.stands_for g.O.NamedOrder.listed lists c.args.self.now c.args.label.now
     c.args.seen.now c.place-place.result c.requires past next stands comes
     (c.place-place.ensures past next stands.order comes) (from_not c.place-place.result.fits true c.if-not-place.false) in
-    c.in-Err.ensures.cause past next stands.kept offered
-    (c.in_ok-parts.ensures.acts ∙ same_op c.args.label.now past.records next comes.becomes)
+    cause_in_sequence past.kind (operate next ∷ past.records) c.in-Err.cause
+    (ap result_err (sym c.in-Err.is) ∙ c.in_ok-admitted.ensures.cause past next stands.kept offered
+    (c.in_ok-parts.ensures.acts ∙ same_op c.args.label.now past.records next comes.becomes))
+
+-- the same effects are kept after the test
+pub returns-in-Err-clause-same : goal.returns-in-Err-clause-same
+returns-in-Err-clause-same g c = λ past stands failed.
+    kept_same g.O.NamedOrder.stands_for c.args.self.now _ past stands stands.order
+    (subst (λ k. AreEffectsOf k past) (sym c.admit.ensures.same) stands.kept)
 
 pub add-requires-clause-may : goal.add-requires-clause-may
 add-requires-clause-may g c =
@@ -41,12 +51,17 @@ add-requires-clause-may g c =
     record {
       past = may.past;
       next = may.next;
-      stands = may.stands.kept;
+      stands = subst (λ k. AreEffectsOf k may.past) (sym c.admit.ensures.same) may.stands.kept;
       offered = offered;
       admitted = all_admitted may.past.kind (operate may.next ∷ may.past.records)
-          (c.in-Ok.ensures.cause may.past may.next may.stands.kept offered acts);
-      update_is = update_known c.in-Ok.admitted.update _ may.next.op c.in-Ok.ensures.update acts;
+          (ap result_err (sym c.in-Ok.is) ∙ c.in_ok-admitted.ensures.cause may.past may.next may.stands.kept offered acts);
+      update_is = update_known c.in-Ok.admitted.update _ may.next.op (rw c.in-Ok.is at c.in_ok-admitted.ensures.update) acts;
     }
+
+pub add-requires-clause-found : goal.add-requires-clause-found
+add-requires-clause-found g c =
+    subst (λ k. IsFoundIn k c.args.label.now c.in-Ok.admitted.found) (sym c.admit.ensures.same)
+    (rw c.in-Ok.is at c.in_ok-admitted.ensures.found)
 
 pub put-requires-clause-few : goal.put-requires-clause-few
 put-requires-clause-few g c =
@@ -63,7 +78,28 @@ returns-clause-cause g c = λ past next stands comes.
     c.args.seen.now c.place-place.result c.requires past next stands comes
     (c.place-place.ensures past next stands.order comes) (from_not c.place-place.result.fits true c.if-not-place.false) in
     let acts = c.in_ok-parts.ensures.acts ∙ same_op c.args.label.now past.records next comes.becomes in
-    c.in-Ok.ensures.cause past next stands.kept offered acts
+    let update = update_known c.in-Ok.admitted.update _ next.op
+    (rw c.in-Ok.is at c.in_ok-admitted.ensures.update) acts in
+    let kept = subst (λ k. AreEffectsOf k past) (sym c.admit.ensures.same) stands.kept in
+    let because = ap result_err (sym c.in-Ok.is) ∙ c.in_ok-admitted.ensures.cause past next stands.kept offered acts in
+    let after = in_some _ _ c.in_ok-steps.field-0 c.in-Some.steps c.in-Some.is
+    (c.in_ok-steps.ensures.taken past next kept offered (sym because) update) in
+    cause_of_elements past.kind (operate next ∷ past.records) true because after.1
+
+pub returns-in-None-clause-cause : goal.returns-in-None-clause-cause
+returns-in-None-clause-cause g c = λ past next stands comes.
+    let lists = (g.met.O.NamedOrder g.world.𝓛 g.world.𝓜 g.world.𝓡 ((λ s x. x), (λ x. x), (λ x. x), λ x. x)).lists in
+    let offered = comes_offered g.O.NamedOrder.stands_for g.O.NamedOrder.listed lists c.args.self.now c.args.label.now
+    c.args.seen.now c.place-place.result c.requires past next stands comes
+    (c.place-place.ensures past next stands.order comes) (from_not c.place-place.result.fits true c.if-not-place.false) in
+    let acts = c.in_ok-parts.ensures.acts ∙ same_op c.args.label.now past.records next comes.becomes in
+    let update = update_known c.in-Ok.admitted.update _ next.op
+    (rw c.in-Ok.is at c.in_ok-admitted.ensures.update) acts in
+    let kept = subst (λ k. AreEffectsOf k past) (sym c.admit.ensures.same) stands.kept in
+    let because = ap result_err (sym c.in-Ok.is) ∙ c.in_ok-admitted.ensures.cause past next stands.kept offered acts in
+    let after = in_none _ _ c.in_ok-steps.field-0 (λ x some. none-some x (sym c.in-None.is ∙ some))
+    (c.in_ok-steps.ensures.taken past next kept offered (sym because) update) in
+    cause_of_elements past.kind (operate next ∷ past.records) false because after.1
 
 pub returns-clause-taken : goal.returns-clause-taken
 returns-clause-taken g c = λ past next stands comes same.
@@ -72,18 +108,27 @@ returns-clause-taken g c = λ past next stands comes same.
     c.args.seen.now c.place-place.result c.requires past next stands comes
     (c.place-place.ensures past next stands.order comes) (from_not c.place-place.result.fits true c.if-not-place.false) in
     let acts = c.in_ok-parts.ensures.acts ∙ same_op c.args.label.now past.records next comes.becomes in
-    let because = c.in-Ok.ensures.cause past next stands.kept offered acts in
-    taken g.O.NamedOrder.stands_for c.args.self.now _ past next c.args.label.now c.args.seen.now stands comes because
+    let update = update_known c.in-Ok.admitted.update _ next.op
+    (rw c.in-Ok.is at c.in_ok-admitted.ensures.update) acts in
+    let kept = subst (λ k. AreEffectsOf k past) (sym c.admit.ensures.same) stands.kept in
+    let because = ap result_err (sym c.in-Ok.is) ∙ c.in_ok-admitted.ensures.cause past next stands.kept offered acts in
+    let after = in_some _ _ c.in_ok-steps.field-0 c.in-Some.steps c.in-Some.is
+    (c.in_ok-steps.ensures.taken past next kept offered (sym because) update) in
+    taken g.O.NamedOrder.stands_for c.args.self.now _ past next c.args.label.now c.args.seen.now stands comes
+    (cause_of_elements past.kind (operate next ∷ past.records) true because after.1)
     (c.put.ensures.stands past next (c.in_ok-spare.ensures.stands past stands.order) comes
-    (c.place-place.ensures past next stands.order comes))
-    (c.in_ok-steps.ensures.taken past next stands.kept offered (all_admitted past.kind (operate next ∷ past.records) because) (update_known c.in-Ok.admitted.update _ next.op c.in-Ok.ensures.update acts))
+    (c.place-place.ensures past next stands.order comes)) after.0
 
 pub returns-clause-counted : goal.returns-clause-counted
 returns-clause-counted g c = λ past next stands comes other same few.
     let acts = c.in_ok-parts.ensures.acts ∙ same_op c.args.label.now past.records next comes.becomes in
-    let count = c.in_ok-steps.ensures.counted past stands.kept other in
-    let known = ap steps_of (update_known c.in-Ok.admitted.update _ next.op c.in-Ok.ensures.update acts) in
-    omega (arith, count, known, few, c.in_ok-steps.ensures.step, c.saturating_add-self.ensures)
+    let update = update_known c.in-Ok.admitted.update _ next.op
+    (rw c.in-Ok.is at c.in_ok-admitted.ensures.update) acts in
+    let kept = subst (λ k. AreEffectsOf k past) (sym c.admit.ensures.same) stands.kept in
+    let count = in_some_part _ c.in_ok-steps.field-0 c.in-Some.steps c.in-Some.is (c.in_ok-steps.ensures.counted past kept other) in
+    let known = ap steps_of update in
+    let one = in_some_part _ c.in_ok-steps.field-0 c.in-Some.steps c.in-Some.is c.in_ok-steps.ensures.step in
+    omega (arith, count, known, few, one, c.saturating_add-self.ensures)
 
 pub returns-clause-settled : goal.returns-clause-settled
 returns-clause-settled g c = λ past next stands comes rga same.
@@ -92,36 +137,35 @@ returns-clause-settled g c = λ past next stands comes rga same.
     c.args.seen.now c.place-place.result c.requires past next stands comes
     (c.place-place.ensures past next stands.order comes) (from_not c.place-place.result.fits true c.if-not-place.false) in
     let acts = c.in_ok-parts.ensures.acts ∙ same_op c.args.label.now past.records next comes.becomes in
-    let because = c.in-Ok.ensures.cause past next stands.kept offered acts in (
-      c.in_ok-steps.steps,
-      c.in_ok-steps.ensures.settled past next stands.kept offered
-          (all_admitted past.kind (operate next ∷ past.records) because) rga,
+    let kept = subst (λ k. AreEffectsOf k past) (sym c.admit.ensures.same) stands.kept in
+    let because = ap result_err (sym c.in-Ok.is) ∙ c.in_ok-admitted.ensures.cause past next stands.kept offered acts in (
+      c.in-Some.steps,
+      in_some_part _ c.in_ok-steps.field-0 c.in-Some.steps c.in-Some.is (c.in_ok-steps.ensures.settled past next kept offered
+          (all_admitted past.kind (operate next ∷ past.records) because) rga),
       c.saturating_add-self.ensures,
     )
 
 pub returns-in_err-spare-clause-same : goal.returns-in_err-spare-clause-same
-returns-in_err-spare-clause-same g c = λ past stands failed. record {
-  order = c.spare.ensures.stands past stands.order;
-  kept = stands.kept;
-  causal = stands.causal;
-  none = stands.none;
-  fits = stands.fits;
-  stamps = stands.stamps;
-  identifiers = stands.identifiers;
-  beyond = stands.beyond;
-}
+returns-in_err-spare-clause-same g c = λ past stands failed.
+    kept_same g.O.NamedOrder.stands_for c.args.self.now _ past stands (c.spare.ensures.stands past stands.order)
+    (subst (λ k. AreEffectsOf k past) (sym c.admit.ensures.same) stands.kept)
+
+pub returns-in_err-admitted-clause-same : goal.returns-in_err-admitted-clause-same
+returns-in_err-admitted-clause-same g c = λ past stands failed.
+    kept_same g.O.NamedOrder.stands_for c.args.self.now _ past stands stands.order
+    (subst (λ k. AreEffectsOf k past) (sym c.admit.ensures.same) stands.kept)
 
 pub returns-in_err-steps-clause-same : goal.returns-in_err-steps-clause-same
-returns-in_err-steps-clause-same g c = λ past stands failed. record {
-  order = c.in_ok-spare.ensures.stands past stands.order;
-  kept = c.in_err-steps.ensures.same past stands.kept;
-  causal = stands.causal;
-  none = stands.none;
-  fits = stands.fits;
-  stamps = stands.stamps;
-  identifiers = stands.identifiers;
-  beyond = stands.beyond;
-}
+returns-in_err-steps-clause-same g c = λ past stands failed.
+    let kept = subst (λ k. AreEffectsOf k past) (sym c.admit.ensures.same) stands.kept in
+    kept_same g.O.NamedOrder.stands_for c.args.self.now _ past stands (c.in_ok-spare.ensures.stands past stands.order)
+    (c.in_err-steps.ensures.same past kept)
+
+pub returns-in-None-clause-same : goal.returns-in-None-clause-same
+returns-in-None-clause-same g c = λ past stands failed.
+    let kept = subst (λ k. AreEffectsOf k past) (sym c.admit.ensures.same) stands.kept in
+    kept_same g.O.NamedOrder.stands_for c.args.self.now _ past stands (c.in_ok-spare.ensures.stands past stands.order)
+    (in_none _ _ c.in_ok-steps.field-0 (λ x some. none-some x (sym c.in-None.is ∙ some)) (c.in_ok-steps.ensures.unchanged past kept))
 
 pub returns-clause-same : goal.returns-clause-same
 returns-clause-same g c = λ past stands failed. absurd (failed refl)
@@ -136,4 +180,6 @@ pub returns-clause-grows : goal.returns-clause-grows
 returns-clause-grows g c = omega (arith, c.saturating_add-self.ensures)
 
 pub returns-clause-one_step : goal.returns-clause-one_step
-returns-clause-one_step g c = omega (arith, c.in_ok-steps.ensures.step, c.saturating_add-self.ensures)
+returns-clause-one_step g c =
+    let one = in_some_part _ c.in_ok-steps.field-0 c.in-Some.steps c.in-Some.is c.in_ok-steps.ensures.step in
+    omega (arith, one, c.saturating_add-self.ensures)

@@ -1,0 +1,10 @@
+use Rattle.std.proofs.Common.{◌≡◌}
+use Rattle.std.specs.Prelude.{All, Contains}
+use Rattle.ra_labels.specs.Edges.{IsChain}
+use Rattle.ra_explain.proofs.cycle.closed_walk.Given as goal
+
+abbrev pub invariant-loop-number : goal.invariant-loop-number
+invariant-loop-number l = record {
+  chain : IsChain l.start l.walk.items l.at;
+  among : All (Contains l.edges) l.walk.items;
+}
