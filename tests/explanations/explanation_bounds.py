@@ -8,6 +8,7 @@ from itertools import permutations
 
 from expected import UPDATES
 from explanation_case import listed
+from model import KINDS
 
 NAMES = [f"n{it}" for it in range(64)]
 
@@ -256,7 +257,7 @@ def arrivals():
 
 def joins():
     """Replicas that join: as the first command, later, from one that joined, and so that a column begins below."""
-    for kind in UPDATES:
+    for kind in KINDS:
         first, second = UPDATES[kind].format(1, 0), UPDATES[kind].format(2, 1)
         wrong = {"counter": "read 70", "register": "read 70"}.get(kind, "read 70,71")
         for lines in (

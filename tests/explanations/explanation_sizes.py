@@ -3,19 +3,18 @@
 A cost is compared with that of a check of the same text, in runs made in turns on the same machine.
 """
 import json
-import subprocess
-import sys
 from pathlib import Path
 from tempfile import TemporaryDirectory
 from types import SimpleNamespace
 
 from assertions import require
-from expected import TYPES, UPDATES, History, crossing
+from expected import UPDATES, History, crossing
 from explanation_case import MOST_STEPS, MOST_TRIED, listed
 from explanation_drawings import MOST_BYTES
 from explanation_faults import Stop
 from explanation_text import cut, headed, line_of_tries, with_label
-from program import CHECK, EXPLAIN, SECONDS, Program
+from model import KINDS
+from program import CHECK, EXPLAIN, Program, costs
 
 # The labels of long histories, the deliveries of the longest, and the labels of those whose memory is measured.
 LABELS, DELIVERIES, OF_EACH = 100_000, 500_000, 300_000
@@ -26,15 +25,6 @@ WRONG = {"counter": "-77777", "register": "none", "lwwset": "-", "orset": "-", "
 # The update with this number, behind the one before.
 UPDATES = {**UPDATES, "rga": "after {1} {0} @{0}"}
 STAMPED = ("register", "lwwset", "rga")
-# Runs the words behind it, the last of which is the file that is read, and prints what that took.
-MEASURED = """
-import os, sys
-*words, text = sys.argv[1:]
-ways = [(os.POSIX_SPAWN_OPEN, 0, text, os.O_RDONLY, 0)]
-_, status, used = os.wait4(os.posix_spawn(words[0], words, {}, file_actions=ways), 0)
-print(used.ru_utime + used.ru_stime, used.ru_maxrss * 1_024, file=sys.stderr)
-sys.exit(0 if os.waitstatus_to_exitcode(status) == 1 else 1)
-"""
 
 
 # How many changes are tried.
@@ -90,7 +80,7 @@ def look_at_each_try(program):
     for commands in (4_095, 4_096, 4_097, 4_112):
         for lacks in (254, 255, 256, 257):
             look_at_tries(program, "rga", 300, lacks, commands)
-    for kind in TYPES:
+    for kind in KINDS:
         look_at_tries(program, kind, 300, 256, 601)
     for kind in ("counter", "register", "lwwset", "orset"):
         look_at_tries(program, kind, 300, 257, 601)
@@ -165,16 +155,6 @@ def look_at_late_report(program):
     require((told["would_be_right"], told["tried"]) == ([{"misses_line": 2 * DELIVERIES + 2}], 2), told)
 
 
-def costs(path, word, text):
-    """The seconds and the peak of memory of a run on the text in this file, and what it writes. A process of its own
-    starts it: what this one has would count as the program's."""
-    words = [sys.executable, "-c", MEASURED, path, word, text]
-    ran = subprocess.run(words, capture_output=True, timeout=SECONDS)
-    require(ran.returncode == 0, ran.stderr[-200:])
-    seconds, peak = ran.stderr.split()
-    return float(seconds), int(peak), ran.stdout
-
-
 def look_at_costs(kind, last, says):
     """A replica got all that another one did, and ends with a line that is wrong: two changes are tried."""
     made = History(kind, "ab")
@@ -186,8 +166,9 @@ def look_at_costs(kind, last, says):
         text = Path(folder) / f"{kind}.rah"
         text.write_bytes(made.text())
         for _ in range(TURNS):
-            check, checked, _ = costs(CHECK, "check", text)
-            explain, explained, page = costs(EXPLAIN, "explain", text)
+            check, checked, *_ = costs([CHECK, "check"], text)
+            explain, explained, page, status = costs([EXPLAIN, "explain"], text)
+            require(status == 1, kind, last, status)
             if explain <= TIMES * check:
                 break
     require(says in page and len(page) <= MOST_BYTES, kind, last, len(page), page[:500])
@@ -208,14 +189,14 @@ def look_at_full(program):
 
 def looks(program):
     """What is called how, and looked at: a function and what it is given."""
-    for kind in TYPES:
+    for kind in KINDS:
         yield f"a long history of {kind}", look_at_long, program, kind
     yield "a full text", look_at_full, program
     yield "a late report", look_at_late_report, program
     yield "many that lack", look_at_many_that_lack, program
     yield "how many changes are tried", look_at_each_try, program
     yield "how many deliveries are tried", look_at_deliveries_that_could_have_come, program
-    ends = [(it, f"read {WRONG[it]}", b"none of the 2 changes that were tried explains it") for it in TYPES]
+    ends = [(it, f"read {WRONG[it]}", b"none of the 2 changes that were tried explains it") for it in KINDS]
     ends += [(it, UPDATES[it].format(1, 0), f"and {OF_EACH - 4} labels before them".encode()) for it in STAMPED]
     for end in ends:
         yield f"what it costs that b {end[1]} of {end[0]}", look_at_costs, *end

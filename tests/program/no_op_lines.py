@@ -6,7 +6,7 @@ labels there are.
 from expected import MOST_REPLICAS, UPDATES, History
 
 # What a read shows before any update.
-NOTHING = {"counter": "0", "register": "none", "lwwset": "-", "orset": "-", "rga": "-"}
+NOTHING = {"counter": "0", "register": "none", "lwwset": "-", "orset": "-", "rga": "-", "list": "-"}
 # Operations that are refused behind updates of a, of which one has the clock 1 or the identifier 1, with the reasons.
 # {0} is a number above those of the updates.
 REFUSED_OPERATIONS = {
@@ -45,6 +45,14 @@ REFUSED_OPERATIONS = {
         "a after 0 {0}": "stamp-missing",
         "a remove 1 @{0}": "stamp-unwanted",
         "a after 0 {0} @1": "stamp-taken",
+    },
+    "list": {
+        "z insert 0 {0} 0": "unknown-replica",
+        "a inc": "wrong-kind",
+        "a after 0 {0} @{0}": "wrong-kind",
+        "a insert 0 {0} 0 @{0}": "stamp-unwanted",
+        "a read 1 @{0}": "stamp-unwanted",
+        "a remove 1 @{0}": "stamp-unwanted",
     },
 }
 # Deliveries that are refused there: label 0 is a query, label 1 reached b, label {0} is the newest, and c has nothing.

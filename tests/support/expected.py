@@ -8,7 +8,7 @@ import json
 # A replica makes so many updates in a round of crossing ones.
 TURNS = 8
 # A read of a list looks at all that was put in, so that of many rounds one reads.
-ROUNDS_OF_A_READ = {"counter": 1, "register": 1, "lwwset": 1, "orset": 1, "rga": 128}
+ROUNDS_OF_A_READ = {"counter": 1, "register": 1, "lwwset": 1, "orset": 1, "rga": 128, "list": 128}
 # Where elements are put in, one replica reads when there are so many.
 READ_AT = (1, 255, 256, 257, 3_000, 4_096, 4_300, 65_535, 65_536, 65_537, 70_000)
 # A replica joins where another one has made so many updates: about the numbers that bytes and 16 bits hold, and more
@@ -22,9 +22,13 @@ UPDATES = {
     "lwwset": "add {0} @{0}",
     "orset": "add {0} #{0}",
     "rga": "after 0 {0} @{0}",
+    "list": "insert 0 {0} 0",
 }
-
-
+# The update of a text with this number, behind the one before.
+TYPED = {"rga": "after {1} {0} @{0}", "list": "insert {1} {0} 0"}
+# Kinds of which a read shows elements in the order of a text, and not in a rising one; and those of which a violation
+# is final.
+TEXTS, FINAL = tuple(TYPED), ("counter", "orset", "list")
 # The greatest number of replicas, in a text RAH 2, and of commands of a text.
 MOST_REPLICAS, MOST_COMMANDS = 64, 1_048_576
 
@@ -85,8 +89,7 @@ class History:
         says = {"calls": len(self.replies), "kind": self.kind, "labels": self.labels, "refused": self.refused}
         if self.violation:
             label, cause = self.violation
-            is_final = self.kind in ("counter", "orset")
-            says, end = {**says, "cause": cause, "final": is_final, "label": label}, f"no {label} {cause}"
+            says, end = {**says, "cause": cause, "final": self.kind in FINAL, "label": label}, f"no {label} {cause}"
         else:
             end = f"yes {self.labels}"
         says["verdict"] = end.split()[0]
@@ -196,7 +199,22 @@ class Rga:
         return listed(reversed(self.shown))
 
 
-TYPES = {"counter": Counter, "register": Register, "lwwset": LwwSet, "orset": OrSet, "rga": Rga}
+class List(Rga):
+    """The same order with neighbours in place of anchors: an element stands before the last one of its replica."""
+
+    def __init__(self):
+        super().__init__()
+        self.last = [0, 0]
+
+    def update(self, replica, turn, clock):
+        body, effect = super().update(replica, turn, clock)
+        element, is_put_in = effect
+        if is_put_in:
+            body, self.last[replica] = f"insert 0 {element} {self.last[replica]}", element
+        return body, effect
+
+
+TYPES = {"counter": Counter, "register": Register, "lwwset": LwwSet, "orset": OrSet, "rga": Rga, "list": List}
 
 
 def crossing(kind, count):
@@ -226,8 +244,8 @@ def crossing(kind, count):
 
 def elements(kind, count):
     """At a so many elements are put in. b gets them and reads now and then, and then removes each second one."""
-    put_in = {"lwwset": "add {0} @{0}", "orset": "add {0} #{0}", "rga": "after {1} {0} @{0}"}[kind]
-    remove = {"lwwset": "remove {0} @{1}", "orset": "remove {0} #{0}", "rga": "remove {0}"}[kind]
+    put_in = {**UPDATES, **TYPED}[kind]
+    remove = {"lwwset": "remove {0} @{1}", "orset": "remove {0} #{0}", "rga": "remove {0}", "list": "remove {0}"}[kind]
     history, numbers = History(kind), range(1, count + 1)
     for number in numbers:
         label = history.does("a", put_in.format(number, number - 1))
@@ -258,14 +276,14 @@ def waiting(is_chain, count):
 class Typing:
     """Each element is put in behind the one before. Now and then one is taken out of sight."""
 
-    def __init__(self):
-        self.shown, self.last = {}, 0
+    def __init__(self, kind):
+        self.shown, self.last, self.body = {}, 0, TYPED[kind]
 
     def update(self, replica, turn, clock):
         if turn == TURNS - 1:
             element = self.last - TURNS // 2
             return f"remove {element}", (element, False)
-        return f"after {self.last} {clock} @{clock}", (clock, True)
+        return self.body.format(clock, self.last), (clock, True)
 
     def apply(self, effect):
         element, is_put_in = effect
@@ -284,7 +302,7 @@ def crowd(kind, first, count):
     reads, gets what it lacks, makes an update and reads; so between its turns it lacks what the others do. At the end
     all get all and read."""
     names = [f"n{it}" for it in range(MOST_REPLICAS)]
-    history, data = History(kind, names[:first], 2), Typing() if kind == "rga" else TYPES[kind]()
+    history, data = History(kind, names[:first], 2), Typing(kind) if kind in TEXTS else TYPES[kind]()
     # The updates, what is read after so many of the first ones, and how many of the first ones each replica has.
     labels, reads, had = [], [data.read()], [0] * first
 
@@ -302,7 +320,7 @@ def crowd(kind, first, count):
             history.joins(names[len(had)], names[source])
             had.append(had[source])
             reads_now(len(had) - 1)
-        replica, has_reads = turn % len(had), kind != "rga" or turn % TURNS == 0
+        replica, has_reads = turn % len(had), kind not in TEXTS or turn % TURNS == 0
         if has_reads:
             reads_now(replica)
         gets_all(replica)
@@ -327,6 +345,7 @@ NEEDS_LAST = {
     "lwwset": "remove {0} @{1}",
     "orset": "remove {0} #{0}",
     "rga": "after {0} {1} @{1}",
+    "list": "insert {0} {1} 0",
 }
 
 
@@ -334,7 +353,7 @@ def joined(kind, count):
     """a makes so many updates. Now and then, and at the end, a replica joins from it, reads, makes an update that needs
     the last one, and gets the next one."""
     history, missing = History(kind, "a", 2), None
-    update = "after {1} {0} @{0}" if kind == "rga" else UPDATES[kind]
+    update = {**UPDATES, **TYPED}[kind]
     for number in range(1, count + 1):
         label = history.does("a", update.format(number, number - 1))
         if missing:

@@ -6,7 +6,8 @@ and then: a read in another order or of another set, neighbours that are wrong, 
 be rejected or none of the grammar. In some of these each replica orders what was inserted concurrently by itself.
 
 One of four has more elements, at one replica that reports parts of the list: a few elements in an order each, until
-what it says is a cycle or it stops.
+what it says is a cycle or it stops. A few of the others have more elements and reports at all their replicas, and fewer
+lies.
 """
 from model import GREATEST_NUMBER, Monitor, NotOfTheGrammar, command_of
 from random_histories import Chance
@@ -35,15 +36,19 @@ OTHERS = ["inc", "dec @0", "write 3 @4", "add 4 @9", "add 3 #7", "remove 3 #2,1"
 class ListAuthor:
     """Makes the lines of one history, and follows it in a monitor of the model."""
 
+    most_elements, most_lines, often = MOST_ELEMENTS, MOST_LINES, LIES
+    label_counts = [4, 6, 8, 10, 12, MOST_LABELS, MOST_LABELS]
+
     def __init__(self, chance):
         self.chance, self.is_honest = chance, chance.below(5) < 2
         self.form = chance.one_of("12")
         self.first_names = sorted(NAMES, key=lambda _: chance.draw())[: 1 + chance.below(MOST_NAMES)]
         self.monitor = Monitor("list", self.first_names)
         self.names = self.monitor.names
-        self.lies, self.oddities = chance.one_of(LIES), chance.one_of(ODDITIES)
+        self.lies, self.oddities = chance.one_of(self.often), chance.one_of(ODDITIES)
         self.sorts = SORTS if chance.once_in(4) else [chance.one_of(SORTS)]
-        self.unused = sorted([*range(1, 9), GREATEST_NUMBER], key=lambda _: chance.draw())[:MOST_ELEMENTS]
+        numbers = [*range(1, self.most_elements + 4), GREATEST_NUMBER]
+        self.unused = sorted(numbers, key=lambda _: chance.draw())[: self.most_elements]
         self.used = []
         # The order of the elements at each replica: one list for all of them, or one for each.
         self.diverges = not self.is_honest and chance.once_in(2)
@@ -201,7 +206,7 @@ class ListAuthor:
 
     def lines(self):
         """The commands. Behind a violation up to two are left, which are answered alike."""
-        labels, lines = self.chance.one_of([4, 6, 8, 10, 12, MOST_LABELS, MOST_LABELS]), MOST_LINES
+        labels, lines = self.chance.one_of(self.label_counts), self.most_lines
         while lines > 0 and len(self.monitor.labels) < labels:
             line = self.line()
             yield line
@@ -237,6 +242,13 @@ class ListAuthor:
             lines.insert(2 + chance.below(len(lines) - 1), chance.one_of(BROKEN_LINES))
         text = "".join(f"{it}\n" for it in lines).encode()
         return text[: chance.below(len(text))] if not self.is_honest and chance.once_in(CUT) else text
+
+
+class LongerAuthor(ListAuthor):
+    """The same with more elements than the model tries all orders of."""
+
+    most_elements, most_lines, often = 12, 160, [10, 30, 90]
+    label_counts = [20, 30, 40]
 
 
 class PartsAuthor:
@@ -278,7 +290,9 @@ class PartsAuthor:
 
 
 def author_of(chance):
-    return (PartsAuthor if Chance(f"parts {chance.seed}").once_in(4) else ListAuthor)(chance)
+    if Chance(f"parts {chance.seed}").once_in(4):
+        return PartsAuthor(chance)
+    return (LongerAuthor if Chance(f"longer {chance.seed}").once_in(12) else ListAuthor)(chance)
 
 
 def history(chance):
