@@ -1,8 +1,7 @@
 //! The monitor behind a pipe: its operations of each kind, its verdicts, and what goes wrong.
 
 use std::fs;
-use std::os::unix::fs::PermissionsExt;
-use std::path::PathBuf;
+use std::path::{Path, PathBuf};
 
 use yehatu::{Cause, Error, Kind, Monitor, Options};
 
@@ -10,12 +9,12 @@ fn each_reply() -> Options {
     Options::new().window(1)
 }
 
-/// Writes a program with this text, and returns its path.
-fn script(name: &str, text: &str) -> PathBuf {
-    let path = std::env::temp_dir().join(format!("yehatu_test_{}_{name}", std::process::id()));
-    fs::write(&path, text).unwrap();
-    fs::set_permissions(&path, fs::Permissions::from_mode(0o755)).unwrap();
-    path
+/// Returns the path of a program that stands in for the monitor.
+///
+/// It is stored, and not written by the test: while a file is open for writing, another test's thread may start a
+/// process, which holds the file open for a moment, and the file cannot be executed then ("Text file busy").
+fn stored_program(name: &str) -> PathBuf {
+    Path::new(env!("CARGO_MANIFEST_DIR")).join("tests/programs").join(name)
 }
 
 #[test]
@@ -149,28 +148,21 @@ fn names_are_checked_before_the_program_starts() {
 /// Both pipes are full while nobody reads replies but the reader: 20,000 lines are more than 64 KiB in each direction.
 #[test]
 fn a_million_bytes_are_sent_without_waiting() {
-    let text = "#!/bin/sh\nread a; read b; n=0\nwhile read line; do echo \"ok $n\"; n=$((n+1)); done\n\
-                echo \"end yes $n\"\n\
-                echo '{\"calls\":0,\"kind\":\"counter\",\"labels\":'$n',\"refused\":0,\"verdict\":\"yes\"}'\n";
-    let path = script("echo", text);
-    let options = Options::new().program(&path).window(1_000_000);
+    let options = Options::new().program(stored_program("answers")).window(1_000_000);
     let mut monitor = Monitor::with_options(Kind::Counter, &["a"], &options).unwrap();
     for _ in 0..40_000 {
         monitor.increment("a").unwrap();
     }
     assert_eq!(monitor.close().unwrap().labels, 40_000);
-    fs::remove_file(path).unwrap();
 }
 
 #[test]
 fn a_program_that_ends_early_is_described() {
-    let path = script("fails", "#!/bin/sh\necho 'no memory' >&2\nexit 2\n");
-    let options = each_reply().program(&path);
+    let options = each_reply().program(stored_program("fails"));
     let mut monitor = Monitor::with_options(Kind::Counter, &["a"], &options).unwrap();
     let error = monitor.increment("a").unwrap_err();
     assert!(matches!(&error, Error::MonitorExited(it) if it.contains("\"no memory\"")), "{error}");
     assert!(error.to_string().contains("exit status: 2"), "{error}");
-    fs::remove_file(path).unwrap();
     let missing = Options::new().program("/nowhere/ra_monitor");
     let error = Monitor::with_options(Kind::Counter, &["a"], &missing).unwrap_err();
     assert!(error.to_string().starts_with("/nowhere/ra_monitor is not a program"), "{error}");
@@ -178,12 +170,10 @@ fn a_program_that_ends_early_is_described() {
 
 #[test]
 fn a_program_that_is_no_monitor_is_named() {
-    let path = script("cat", "#!/bin/sh\nexec cat\n");
-    let options = each_reply().program(&path);
+    let options = each_reply().program(stored_program("repeats"));
     let mut monitor = Monitor::with_options(Kind::Counter, &["a"], &options).unwrap();
     let error = monitor.increment("a").unwrap_err();
     assert!(error.to_string().contains("the program is not a monitor"), "{error}");
-    fs::remove_file(path).unwrap();
 }
 
 #[test]
