@@ -19,7 +19,7 @@ export interface Report {
 }
 
 /** The kind of a history: the data type whose specification the monitor checks. */
-export type Kind = "counter" | "register" | "lwwset" | "orset" | "rga";
+export type Kind = "counter" | "register" | "lwwset" | "orset" | "rga" | "list";
 /**
  * The condition that fails at a violation: the order, an update that is not admitted, or a query whose answer is wrong.
  */
@@ -130,7 +130,11 @@ export interface Operation {
   readonly value?: unknown;
   /** The element behind which an insertion stands, or null at the start. */
   readonly anchor?: unknown;
-  /** The stamp of a write, of an LWW set's update or of an insertion. */
+  /** The element in front of a list's insertion, or null if there was none. */
+  readonly left?: unknown;
+  /** The element behind a list's insertion, or null if there was none. */
+  readonly right?: unknown;
+  /** The stamp of a write, of an LWW set's update or of an RGA's insertion. */
   readonly stamp?: Stamp;
   /** The identifiers that an OR-Set's update adds or removes. */
   readonly identifiers?: readonly Key[];
@@ -155,6 +159,12 @@ export function add(element: Key, mark?: { stamp?: Stamp; identifier?: Key }): O
 export function remove(element: Key, mark?: { stamp?: Stamp; identifiers?: Iterable<Key> }): Operation;
 /** Creates a list's insertion of this element directly behind the anchor, or at the start if that is null. */
 export function insertAfter(anchor: Key | null, element: Key, stamp: Stamp): Operation;
+
+/**
+ * Creates a list's insertion of this element between two neighbours, which is for lists of any design. The neighbours
+ * are the elements that the replica showed on both sides, or null where there was none.
+ */
+export function insert(left: Key | null, element: Key, right: Key | null): Operation;
 
 /** The options of a recorder. */
 export interface RecorderOptions extends MonitorOptions {
@@ -224,6 +234,12 @@ export class Recorder {
   join<Done>(replica: Key, source: Key, options?: Act<Done>): Promise<Done>;
   /** Reports a read of this value, or of the value that this function returns. Returns the value. */
   read<Value>(replica: Key, value: Value | (() => Value | Promise<Value>)): Promise<Value>;
+  /**
+   * Reports a read of a part of a list: these elements are shown in this order, perhaps with others between. The
+   * elements may be a function, which returns them. Returns the elements. It is for lists of the kind `list` that are
+   * too long to be reported as a whole.
+   */
+  part<Value>(replica: Key, elements: Value | (() => Value | Promise<Value>)): Promise<Value>;
   /** Returns the updates that were delivered to the replica so far, for a `merge` of its current state. */
   seen(replica: Key): Seen;
   /** Reports a counter's increment by one, or by an amount from 1 to 256, as that number of increments. */
@@ -261,6 +277,17 @@ export class Recorder {
     anchor: Key | null,
     element: Key,
     stamp: Told<Stamp, Done>,
+    options?: Sent<Done>,
+  ): Promise<Done>;
+  /**
+   * Reports an insertion into a list of the kind `list`, between two elements that the replica had: mostly those that
+   * it showed on both sides. Null says that there was none, or that it is unknown.
+   */
+  insert<Done>(
+    replica: Key,
+    left: Key | null,
+    element: Key,
+    right: Key | null,
     options?: Sent<Done>,
   ): Promise<Done>;
   /** Waits for all replies. Rejects with the failure, if there is one. */
@@ -324,8 +351,9 @@ export class Runs {
  * Tests replicas in random runs, one for each seed, and returns the runs that passed.
  *
  * A replica has the methods of its kind (`increment` and `decrement`, `write(value)`, `add(element)` and
- * `remove(element)`, or `insertAfter(anchor, element)` and `remove(element)`), `read()`, and `receive(message)`. They
- * may be asynchronous. A type that only grows has no `decrement` or `remove`.
+ * `remove(element)`, `insertAfter(anchor, element)` and `remove(element)` for the kind `rga`, or
+ * `insert(index, element)` and `delete(index)` for the kind `list`), `read()`, and `receive(message)`. They may be
+ * asynchronous. A type that only grows has no `decrement`, `remove` or `delete`.
  *
  * An update returns the message that the other replicas receive. The message has the `stamp` of a write, of an LWW
  * set's update or of an insertion, and the `identifier` or `identifiers` of an OR-Set's update if the type exposes

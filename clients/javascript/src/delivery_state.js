@@ -1,4 +1,9 @@
 // Which updates were delivered to each replica, and which messages wait for others.
+import { LISTS } from "./operations.js";
+
+// The methods that insert an element, which is their second argument, and those that remove their first one.
+const INSERTING = ["insertAfter", "insert"];
+export const REMOVING = ["remove", "delete"];
 
 /**
  * The updates that were delivered to each replica, those that each update sees, and the visible list elements.
@@ -24,7 +29,7 @@ export class DeliveryState {
   /** Returns whether the update is new, and the replica shows the element that a list's update names. */
   canUpdate({ replica, number, arguments: [first] }) {
     if (this.#origins.has(number)) return false;
-    return this.#kind !== "rga" || first === null || this.visible[replica].includes(first);
+    return !LISTS.includes(this.#kind) || first === null || this.visible[replica].includes(first);
   }
 
   /** Records that the replica of this step issues its update. */
@@ -101,8 +106,8 @@ export class DeliveryState {
     const step = this.issued[issuer][position];
     const [first, element] = step.arguments;
     this.delivered[replica][issuer] = position + 1;
-    if (step.method === "insertAfter") this.visible[replica].push(element);
-    if (step.method === "remove") this.visible[replica] = this.visible[replica].filter((it) => it !== first);
+    if (INSERTING.includes(step.method)) this.visible[replica].push(element);
+    if (REMOVING.includes(step.method)) this.visible[replica] = this.visible[replica].filter((it) => it !== first);
   }
 
   /** Returns whether the sender has an update that the replica lacks. */

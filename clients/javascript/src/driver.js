@@ -6,7 +6,7 @@ import { NotRepresentable } from "./errors.js";
 import * as operations from "./operations.js";
 import { Recorder } from "./recorder.js";
 import { Returned, UnusableResult } from "./returned.js";
-import { COPYING } from "./steps.js";
+import { COPYING, callArguments, makeStep } from "./steps.js";
 import { expectedResult } from "./translation.js";
 
 /** A substitute for the monitor that collects a recorder's lines, so that one run of the program checks them. */
@@ -34,6 +34,10 @@ export class Driver {
   #state;
   /** What each update returned, by its number. */
   messages = new Map();
+  /** The index of each update of a list, by the update's number. */
+  indexes = new Map();
+  // The step that is being executed, or the read that is reported in its place.
+  #current;
   // For each state that was taken early: a copy, which is merged, and the object, with its replica and what was in it.
   #early = new Map();
   // What each replica saved, and what it received since then: methods, each with a message or with a copy of a state.
@@ -75,14 +79,15 @@ export class Driver {
     if (this.#profile.restarts) for (const replica of this.#replicas.keys()) await this.#saveState(replica);
     for (const step of steps) {
       if (this.#replicas.has(step.replica) === (step.action === "join")) continue;
+      this.#current = step;
       try {
         if (!(await this.#handlers[step.action](step))) continue;
       } catch (error) {
         if (error instanceof NotRepresentable) throw error;
-        this.executed.push(step);
+        this.executed.push(this.#current);
         return { error };
       }
-      this.executed.push(step);
+      this.executed.push(this.#current);
       this.#lineCounts.push(this.#transcript.lines.length);
     }
     return null;
@@ -102,17 +107,40 @@ export class Driver {
 
   async #update(step) {
     if (!this.#state.canUpdate(step)) return false;
-    const message = await this.#call(step.replica, step.method, ...step.arguments);
+    let neighbors = {};
+    if (this.#kind === "list") {
+      const shown = await this.#shownList(step);
+      if (shown === null) return true;
+      const { index, ...sides } = placeOf(step, shown);
+      this.indexes.set(step.number, index);
+      neighbors = sides;
+    }
+    const message = await this.#call(step.replica, step.method, ...callArguments(step, this.indexes));
     this.messages.set(step.number, new Returned("message", step.number, message));
     const name = this.#names[step.replica];
     if (this.#kind === "counter") {
       await this.recorder[step.method](name, { by: step.arguments[0], message: step.number });
     } else {
-      await this.recorder.update(name, operationOf(this.#kind, step, message ?? {}), { message: step.number });
+      const operation = operationOf(this.#kind, step, message ?? {}, neighbors);
+      await this.recorder.update(name, operation, { message: step.number });
     }
     this.#state.update(step);
     if (this.#profile.restarts) await this.#saveState(step.replica);
     return true;
+  }
+
+  /**
+   * Returns the list that the replica shows before an update. A list with other elements than those that were delivered
+   * is reported as a read, in the place of the update. The result is null then.
+   */
+  async #shownList({ replica }) {
+    const value = await this.#call(replica, "read");
+    const expected = this.#state.visible[replica];
+    const shown = typeof value?.[Symbol.iterator] === "function" ? [...value] : [];
+    if (shown.length === expected.length && expected.every((it) => shown.includes(it))) return shown;
+    this.#current = makeStep("read", replica, 0);
+    await this.#reportRead(replica, value);
+    return null;
   }
 
   async #deliver({ replica, number }) {
@@ -198,7 +226,11 @@ export class Driver {
   }
 
   async #read({ replica }) {
-    const value = await this.#call(replica, "read");
+    await this.#reportRead(replica, await this.#call(replica, "read"));
+    return true;
+  }
+
+  async #reportRead(replica, value) {
     try {
       await this.recorder.read(this.#names[replica], value);
     } catch (error) {
@@ -207,7 +239,6 @@ export class Driver {
       error.stack = String(error);
       throw new UnusableResult(value, expectedResult(this.#kind), error);
     }
-    return true;
   }
 
   // Calls of the user's class.
@@ -253,14 +284,22 @@ export class Driver {
   }
 }
 
+/** Returns the index of a list's update, and the elements that the list shows on both sides of an insertion. */
+function placeOf({ method, arguments: [named] }, shown) {
+  if (method === "delete") return { index: shown.indexOf(named) };
+  const index = named === null ? 0 : shown.indexOf(named) + 1;
+  return { index, left: named, right: shown[index] ?? null };
+}
+
 /** Returns the operation of an update, with the stamp or the identifiers of its message. */
-function operationOf(kind, step, message) {
+function operationOf(kind, step, message, { left, right }) {
   const [first, second] = step.arguments;
+  if (kind === "list" && step.method === "insert") return operations.insert(left, second, right);
   if (kind === "register") return operations.write(first, stampOf(step, message));
   if (step.method === "insertAfter") return operations.insertAfter(first, second, stampOf(step, message));
   if (kind === "orset" && step.method === "add") return operations.add(first, { identifier: message.identifier });
   if (kind === "orset") return operations.remove(first, { identifiers: message.identifiers });
-  if (kind === "rga") return operations.remove(first);
+  if (operations.LISTS.includes(kind)) return operations.remove(first);
   const update = step.method === "add" ? operations.add : operations.remove;
   return update(first, { stamp: stampOf(step, message) });
 }

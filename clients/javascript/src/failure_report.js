@@ -21,6 +21,12 @@ export const MEANINGS = {
   "stamp-taken": "another operation of its replica used this clock before",
   "id-taken": "another addition used this identifier before",
 };
+// The meanings of a list's violations.
+const LIST_MEANINGS = {
+  order: "no single order of the elements agrees with all reads and insertions",
+  update: "it inserts an element that was inserted before, or names one that was not",
+  query: "it does not follow from the updates that it sees",
+};
 const NOT_CAUSAL = "refused not-causal ";
 
 /**
@@ -127,7 +133,8 @@ export class FailureReport {
     const verdict = reply.startsWith("no ") ? "not RA-linearizable" : "refused";
     const isRemoval = this.#translator.kind === "orset" && this.commands.at(-1).includes(" remove ");
     if (cause === "query" && isRemoval) return `${verdict}, ${this.#compareIdentifiers()}`;
-    return cause === undefined ? reply : `${verdict}, ${MEANINGS[cause]}`;
+    const meanings = this.#translator.kind === "list" ? { ...MEANINGS, ...LIST_MEANINGS } : MEANINGS;
+    return cause === undefined ? reply : `${verdict}, ${meanings[cause]}`;
   }
 
   /** Compares the identifiers that the last command, a removal, names with those that its replica has. */

@@ -1,7 +1,7 @@
 // The history of one object of a log, and the program's verdict on it in the log's own words.
 import { Transcript } from "./driver.js";
 import { NotRepresentable } from "./errors.js";
-import { DELIVER, LogFault, READ, thing } from "./log_lines.js";
+import { DELIVER, LogFault, PART, READ, thing } from "./log_lines.js";
 import { checked } from "./log_shapes.js";
 import { MAX_COMMANDS, MAX_REPLICAS, RankedClocks } from "./numbers.js";
 import { checkText } from "./program.js";
@@ -39,6 +39,7 @@ class LogHistory {
     try {
       if (word === DELIVER) this.#reports.deliver(index, message);
       else if (word === READ) this.#reports.read(index, operation);
+      else if (word === PART) this.#reports.part(index, operation);
       else this.#reports.update(index, operation, message);
     } catch (error) {
       throw error instanceof NotRepresentable ? new LogFault(place, error.message) : error;

@@ -7,6 +7,7 @@ const KINDS = Object.keys(OPERATIONS);
 export const STANDARD_INPUT = "-";
 export const DELIVER = "deliver";
 export const READ = "read";
+export const PART = "part";
 // The types of a completion or an invocation in a Jepsen history.
 const JEPSEN_TYPES = ["invoke", "ok", "fail", "info"];
 // The longest value that a message quotes.
@@ -90,6 +91,8 @@ export const FIELDS = {
   identifier: { expected: "the identifier of the addition, a JSON value", accepts: isAnything },
   identifiers: { expected: "the list of the identifiers that the removal names", accepts: Array.isArray },
   anchor: { expected: "the element in front, or null at the start of the list", accepts: isAnything },
+  left: { expected: "the element that was shown in front, or null if there was none", accepts: isAnything },
+  right: { expected: "the element that was shown behind, or null if there was none", accepts: isAnything },
   value: { expected: "a JSON value", accepts: isAnything },
 };
 

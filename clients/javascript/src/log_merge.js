@@ -1,5 +1,5 @@
 // One order of the events of several replicas: each replica's own, and each update before its deliveries.
-import { DELIVER, LogFault, READ, shown } from "./log_lines.js";
+import { DELIVER, LogFault, PART, READ, shown } from "./log_lines.js";
 
 // The largest number of lines that the fault of a cycle names.
 const SHOWN_LINES = 4;
@@ -18,7 +18,8 @@ export function merge(events) {
   const placed = new Set();
   const updateOf = (event) => (event.operation === DELIVER ? senders.get(event.message) : undefined);
   const lacking = (event) => [updateOf(event), previous.get(event)].find((it) => it !== undefined && !placed.has(it));
-  const [reads, others] = [true, false].map((isRead) => events.filter((it) => (it.operation === READ) === isRead));
+  const returns = ({ operation }) => operation === READ || operation === PART;
+  const [reads, others] = [true, false].map((isRead) => events.filter((it) => returns(it) === isRead));
   for (const event of [...others, ...reads]) placeWithDependencies(event, lacking, placed, senders);
   return [...placed];
 }

@@ -1,5 +1,5 @@
 // The fields of each operation in a log, and the conversion of its value.
-import { DELIVER, FIELDS, LogFault, READ, fieldFault, missingField, shown, thing } from "./log_lines.js";
+import { DELIVER, FIELDS, LogFault, PART, READ, fieldFault, missingField, shown, thing } from "./log_lines.js";
 import { operationsOf } from "./operations.js";
 import { MAX_AMOUNT } from "./recorder.js";
 import { MAX_COUNT, MIN_COUNT } from "./translation.js";
@@ -20,6 +20,11 @@ const SHAPES = {
     insert_after: { required: ["anchor", "value", "stamp"], optional: ["message"] },
     remove: { required: ["value"], optional: ["message"] },
   },
+  list: {
+    insert: { required: ["left", "value", "right"], optional: ["message"] },
+    remove: { required: ["value"], optional: ["message"] },
+    [PART]: { required: ["value"], optional: [] },
+  },
 };
 const OF_ANY_KIND = {
   [DELIVER]: { required: ["message"], optional: [] },
@@ -34,7 +39,8 @@ export function checked(event, kind) {
   const { place, operation } = event;
   const shape = OF_ANY_KIND[operation] ?? (Object.hasOwn(SHAPES[kind], operation) ? SHAPES[kind][operation] : null);
   if (shape === null) {
-    const expected = [...operationsOf(kind).map(snakeCased), READ, DELIVER].join(", ");
+    const parts = kind === "list" ? [PART] : [];
+    const expected = [...operationsOf(kind).map(snakeCased), ...parts, READ, DELIVER].join(", ");
     throw fieldFault(place, "operation", operation, `one of ${expected} for the kind ${kind}`);
   }
   const missing = shape.required.find((it) => !(it in event));
@@ -55,7 +61,7 @@ const camelCased = (word) => word.replace(/_([a-z])/g, (_, it) => it.toUpperCase
 /** Returns what `Reports` takes: an update, a list of equal updates for an amount, or the result of a read. */
 function operationOf(event, kind) {
   if (event.operation === DELIVER) return undefined;
-  if (event.operation === READ) return resultOf(event, kind);
+  if (event.operation === READ || event.operation === PART) return resultOf(event, kind);
   const word = camelCased(event.operation);
   if (kind === "counter") return Array(amountOf(event)).fill({ word });
   if (kind === "register" && event.value === null) {
@@ -64,7 +70,9 @@ function operationOf(event, kind) {
   }
   const operation = { word, value: thing(event.value) };
   if ("stamp" in event) operation.stamp = BigInt(event.stamp);
-  if ("anchor" in event) operation.anchor = event.anchor === null ? null : thing(event.anchor);
+  for (const name of ["anchor", "left", "right"]) {
+    if (name in event) operation[name] = event[name] === null ? null : thing(event[name]);
+  }
   if ("identifier" in event) operation.identifiers = [thing(event.identifier)];
   if ("identifiers" in event) operation.identifiers = event.identifiers.map(thing);
   return operation;

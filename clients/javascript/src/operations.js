@@ -1,4 +1,4 @@
-// The operations of the five kinds, in the user's own names.
+// The operations of the six kinds, in the user's own names.
 import { inspect } from "node:util";
 import { NotRepresentable } from "./errors.js";
 
@@ -9,13 +9,19 @@ export const OPERATIONS = {
   lwwset: ["add", "remove"],
   orset: ["add", "remove"],
   rga: ["insertAfter", "remove"],
+  list: ["insert", "remove"],
 };
+/** The kinds whose elements have an order. */
+export const LISTS = ["rga", "list"];
 
 /** Returns the names of the operations of this kind. */
 export function operationsOf(kind) {
   if (Object.hasOwn(OPERATIONS, kind)) return OPERATIONS[kind];
   throw new NotRepresentable(`unknown kind ${inspect(kind)}: expected ${Object.keys(OPERATIONS).join(", ")}`);
 }
+
+/** Returns the methods of a replica of this kind that update it. Those of a list take an index. */
+export const methodsOf = (kind) => (kind === "list" ? ["insert", "delete"] : operationsOf(kind));
 
 /** Creates a counter's increment by one. */
 export const increment = () => ({ word: "increment" });
@@ -51,3 +57,9 @@ export const remove = (element, { stamp, identifiers } = {}) => ({
 
 /** Creates a list's insertion of this element directly behind the anchor, or at the start if that is null. */
 export const insertAfter = (anchor, element, stamp) => ({ word: "insertAfter", value: element, anchor, stamp });
+
+/**
+ * Creates a list's insertion of this element between two neighbours, which is for lists of any design. The neighbours
+ * are the elements that the replica showed on both sides, or null where there was none.
+ */
+export const insert = (left, element, right) => ({ word: "insert", value: element, left, right });

@@ -1,7 +1,8 @@
 // Random plans of what replicas do and what the network does, determined by a seed.
 import { inspect } from "node:util";
-import { DeliveryState } from "./delivery_state.js";
+import { DeliveryState, REMOVING } from "./delivery_state.js";
 import { Network } from "./network.js";
+import { LISTS, methodsOf } from "./operations.js";
 import { RandomNumbers } from "./random_numbers.js";
 import { makeStep } from "./steps.js";
 
@@ -267,10 +268,10 @@ export class Planner {
     const method = this.#chooseMethod();
     if (this.#kind === "counter") return [method, this.#traits.amounts ? [this.#chooseAmount()] : []];
     if (this.#kind === "register") return [method, [this.#newValue()]];
-    if (this.#kind !== "rga") return [method, [this.#random.choice(this.#elements)]];
+    if (!LISTS.includes(this.#kind)) return [method, [this.#random.choice(this.#elements)]];
     const visible = this.#state.visible[replica];
-    if (method === "remove" && visible.length > 0) return [method, [this.#random.choice(visible)]];
-    return ["insertAfter", [this.#random.choice([null, ...visible]), this.#newValue()]];
+    if (REMOVING.includes(method) && visible.length > 0) return [method, [this.#random.choice(visible)]];
+    return [methodsOf(this.#kind)[0], [this.#random.choice([null, ...visible]), this.#newValue()]];
   }
 
   #chooseAmount() {

@@ -1,10 +1,12 @@
 // What a type promises of its transport, and what its class can do.
 import { inspect } from "node:util";
-import { operationsOf } from "./operations.js";
+import { methodsOf } from "./operations.js";
 
 export const DELIVERIES = ["causal", "any"];
 // The relative frequency of each method, unless the caller chooses others.
-export const WEIGHTS = { increment: 1, decrement: 1, write: 1, add: 2, remove: 1, insertAfter: 3 };
+export const WEIGHTS = {
+  increment: 1, decrement: 1, write: 1, add: 2, remove: 1, insertAfter: 3, insert: 3, delete: 1,
+};
 /** Which parameter of a counter's update is an amount. */
 export const AMOUNT_RULE = "an amount is the first parameter of each update and is named `by`";
 // The first parameter of a method or of an arrow function, and the parameter behind an amount.
@@ -52,7 +54,7 @@ export function isClass(make) {
  * that is no amount, and `RangeError` if it cannot keep what is promised.
  */
 export function traitsOf(make, kind, name, promised, weights) {
-  const operations = operationsOf(kind);
+  const operations = methodsOf(kind);
   const replica = make(name);
   const merges = !hasMethod(replica, "receive") && hasMethod(replica, "merge");
   const required = [operations[0], "read", ...(merges ? ["state", "merge"] : ["receive"])];

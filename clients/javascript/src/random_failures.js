@@ -7,7 +7,7 @@ import { saveHistory } from "./failure_report.js";
 import { describeFaults } from "./faults.js";
 import { regressionTest } from "./regression.js";
 import { Changed, Unusable } from "./returned.js";
-import { RECEIVING } from "./steps.js";
+import { RECEIVING, callArguments } from "./steps.js";
 import { store } from "./stored.js";
 
 // The largest number of lines of a history that a message shows.
@@ -78,24 +78,24 @@ function answerOf(setting, failure) {
 }
 
 /** Returns the last command, or the last call with what it threw, or what it returned that cannot be used. */
-function operationOf(setting, { raised, recorder, steps, text }) {
+function operationOf(setting, { raised, recorder, steps, text, indexes }) {
   if (raised === undefined) {
     const report = recorder.failureReport(text);
     return report.describe(report.commands.length - 1);
   }
   const outcome = raised.error instanceof Unusable ? raised.error.message : `threw ${raised.error}`;
-  return `${describeCall(setting, steps.at(-1))} ${outcome}`;
+  return `${describeCall(setting, steps.at(-1), indexes)} ${outcome}`;
 }
 
 /** Returns a line that says which call returned what the last one received, if that is a message or has changed. */
-function describeOrigin(setting, { steps, messages, raised: { error } }) {
+function describeOrigin(setting, { steps, messages, indexes, raised: { error } }) {
   const last = steps.at(-1);
   const hasChanged = error instanceof Changed;
   if (!hasChanged && !RECEIVING.includes(last.action)) return "";
   const { what, number } = hasChanged ? error : { what: "message", number: last.number };
   const action = what === "message" ? "update" : "snapshot";
   const returning = steps.find((it) => it.action === action && it.number === number);
-  const line = `${what} ${number} was returned by ${describeCall(setting, returning)}`;
+  const line = `${what} ${number} was returned by ${describeCall(setting, returning, indexes)}`;
   if (hasChanged) return `${line}${error.change}\n`;
   const { value } = messages.get(number);
   if (value !== undefined && value !== null) return `${line}\n`;
@@ -153,11 +153,12 @@ const header = (text) => text.split("\n").slice(0, 2).join("\n");
 const indented = (text) => text.split("\n").map((it) => (it === "" ? "" : `    ${it}`)).join("\n").trimEnd();
 
 /** Returns the call of a replica's method that a step makes. */
-function describeCall(setting, { action, replica, number, method, arguments: parameters }) {
+function describeCall(setting, step, indexes) {
+  const { action, replica, number, method } = step;
   const nameOf = (it) => inspect(setting.replicas[it]);
   const name = nameOf(replica);
   const calls = {
-    update: `${method}(${parameters.map((it) => inspect(it)).join(", ")})`,
+    update: `${method}(${callArguments(step, indexes).map((it) => inspect(it)).join(", ")})`,
     deliver: `receive(message ${number})`,
     duplicate: `receive(message ${number}) again`,
     merge: `merge(state of ${nameOf(number)})`,

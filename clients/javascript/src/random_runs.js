@@ -1,7 +1,7 @@
 // Random runs of the user's own replicas, and the smallest history of the first failure.
 import { inspect } from "node:util";
 import { NotRepresentable } from "./errors.js";
-import { operationsOf } from "./operations.js";
+import { methodsOf } from "./operations.js";
 import { Planner, formatSeed, parseSeed } from "./plans.js";
 import { AMOUNT_RULE, defaultNames, hasMethod, replicaMaker, traitsOf } from "./profile.js";
 import * as programs from "./program.js";
@@ -145,7 +145,7 @@ async function* finished(pending, most) {
 }
 
 function resultOf(runs, kind, traits) {
-  const unused = operationsOf(kind).filter((it) => !traits.methods.includes(it));
+  const unused = methodsOf(kind).filter((it) => !traits.methods.includes(it));
   if (unused.length > 0) {
     process.stderr.write(`checkRandom ${kind}: the type has no ${unused.join(", ")}, so it was not tried\n`);
   }

@@ -85,6 +85,16 @@ export class Recorder {
     return this.#step("read", replica, [value], act, (index, result) => this.#reports.read(index, result));
   }
 
+  /**
+   * Reports a read of a part of a list: these elements are shown in this order, perhaps with others between. The
+   * elements may be a function, which returns them. Returns the elements. It is for lists of the kind `list` that are
+   * too long to be reported as a whole.
+   */
+  part(replica, elements) {
+    const act = typeof elements === "function" ? elements : () => elements;
+    return this.#step("part", replica, [elements], act, (index, result) => this.#reports.part(index, result));
+  }
+
   /** Returns the updates that were delivered to the replica so far, for a `merge` of its current state. */
   seen(replica) {
     return this.#reports.seen(replica);
@@ -159,6 +169,16 @@ export class Recorder {
       const operation = operations.insertAfter(anchor, element, evaluate(stamp, result));
       return this.#reports.issue(index, operation, evaluate(message, result));
     });
+  }
+
+  /**
+   * Reports an insertion into a list of the kind `list`, between two elements that the replica had: mostly those that
+   * it showed on both sides. Null says that there was none, or that it is unknown.
+   */
+  insert(replica, left, element, right, { act, message } = NONE) {
+    return this.#step("insert", replica, [left, element, right], act, (index, result) =>
+      this.#reports.issue(index, operations.insert(left, element, right), evaluate(message, result)),
+    );
   }
 
   /** Waits for all replies. Rejects with the failure, if there is one. */

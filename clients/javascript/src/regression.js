@@ -1,9 +1,10 @@
 // The source of a regression test for a small run.
 import { inspect } from "node:util";
 import { initialReplicas } from "./driver.js";
+import { LISTS } from "./operations.js";
 import { isClass } from "./profile.js";
 import { Unusable } from "./returned.js";
-import { RECEIVING } from "./steps.js";
+import { RECEIVING, callArguments } from "./steps.js";
 
 const MAX_LINES = 30;
 const INDENT = "  ";
@@ -28,12 +29,14 @@ class Source {
   #used;
   #restarts;
   #loadsStatically;
+  #indexes;
   #received = new Map();
 
-  constructor(setting, { steps, isAsynchronous }, { name, make }) {
+  constructor(setting, { steps, isAsynchronous, indexes }, { name, make }) {
     this.#make = make;
     this.#kind = setting.kind;
     this.#names = setting.replicas;
+    this.#indexes = indexes;
     this.#wait = isAsynchronous ? "await " : "";
     this.taken = new Set([...TAKEN, name]);
     this.#used = new Set(steps.filter((it) => RECEIVING.includes(it.action)).map((it) => it.number));
@@ -57,12 +60,14 @@ class Source {
   }
 
   /** Adds the statements of a step. */
-  add({ action, replica, number, method, arguments: parameters }) {
+  add(step) {
+    const { action, replica, number, method } = step;
     const name = this.variable(replica);
     const statements = {
       update: () => {
         const target = this.#used.has(number) ? `const m${number} = ` : "";
-        this.lines.push(`${target}${this.#wait}${name}.${method}(${parameters.map(shown).join(", ")});`);
+        const parameters = callArguments(step, this.#indexes).map(shown).join(", ");
+        this.lines.push(`${target}${this.#wait}${name}.${method}(${parameters});`);
         this.#save(replica);
       },
       deliver: () => this.#receive(replica, `receive(m${number})`),
@@ -115,7 +120,7 @@ class Source {
     const read = `${this.#wait}${this.variable(replica)}.read()`;
     if (this.#kind === "lwwset" || this.#kind === "orset") {
       this.lines.push(`assert.deepEqual(new Set(${read}), new Set(${shown(expected)}));`);
-    } else if (this.#kind === "rga") {
+    } else if (LISTS.includes(this.#kind)) {
       this.lines.push(`assert.deepEqual([...${this.#wait ? `(${read})` : read}], ${shown(expected)});`);
     } else if (expected === null) {
       this.lines.push(`assert.equal((${read}) ?? null, null);`);

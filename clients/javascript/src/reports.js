@@ -241,11 +241,19 @@ export class Reports {
 
   /** Reports a read that returned this value. */
   read(replica, value) {
-    const result = this.#translator.formatResult(value);
+    return this.#postResult(replica, `read ${this.#translator.formatResult(value)}`);
+  }
+
+  /** Reports that a list shows these elements in this order, perhaps with others between. */
+  part(replica, elements) {
+    return this.#postResult(replica, `part ${this.#translator.formatPart(elements)}`);
+  }
+
+  #postResult(replica, fields) {
     const label = this.#labels;
     this.#labels = label + 1;
     this.#commands += 1;
-    return this.#postLine(`${this.#prefixes[replica]}read ${result}\n`, `ok ${label}`);
+    return this.#postLine(`${this.#prefixes[replica]}${fields}\n`, `ok ${label}`);
   }
 
   #findMessage(message) {

@@ -31,8 +31,8 @@ export class Run {
   async findFailure() {
     const { replies } = await this.#check.wait();
     const driver = this.#driver;
-    const { recorder, isAsynchronous, hasInstances } = driver;
-    const found = { recorder, isAsynchronous, hasInstances };
+    const { recorder, isAsynchronous, hasInstances, indexes } = driver;
+    const found = { recorder, isAsynchronous, hasInstances, indexes };
     const failed = replies.findIndex((it) => /^(no|refused) /.test(it));
     if (failed >= 0) {
       const cause = replies[failed].startsWith("no ") ? ["no"] : replies[failed].split(" ", 2);

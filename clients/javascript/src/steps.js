@@ -23,6 +23,17 @@ export function makeStep(action, replica, number = 0, method = "", parameters = 
   return { action, replica, number, method, arguments: parameters };
 }
 
+/**
+ * Returns the arguments of the call that an update makes. `indexes` has the index of each update of a list.
+ *
+ * The first argument of a step of a list names an element: the one that is removed, or the one behind which the new one
+ * is inserted. The call has an index instead.
+ */
+export function callArguments(step, indexes) {
+  if (step.action !== "update" || !indexes.has(step.number)) return step.arguments;
+  return [indexes.get(step.number), ...step.arguments.slice(1)];
+}
+
 /** Returns the steps as lists, for JSON. */
 export function toValues(steps) {
   return steps.map((it) => [it.action, it.replica, it.number, STORED_NAMES[it.method] ?? it.method, it.arguments]);

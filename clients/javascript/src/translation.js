@@ -2,7 +2,7 @@
 import { inspect } from "node:util";
 import { NotRepresentable } from "./errors.js";
 import { Clocks, Numbering, Replicas } from "./numbers.js";
-import { operationsOf } from "./operations.js";
+import { LISTS, operationsOf } from "./operations.js";
 
 export const MIN_COUNT = -2_147_483_648;
 export const MAX_COUNT = 2_147_483_647;
@@ -24,6 +24,7 @@ export class Translator {
     add: (replica, operation) => this.#formatChange(replica, operation),
     remove: (replica, operation) => this.#formatChange(replica, operation),
     insertAfter: (replica, operation) => this.#formatInsertion(replica, operation),
+    insert: (replica, operation) => this.#formatInsertionBetween(operation),
   };
 
   constructor(kind, replicas, nothing = null, clocks = new Clocks()) {
@@ -93,6 +94,11 @@ export class Translator {
     return `after ${anchor} ${element}${this.#formatClock(replica, operation.stamp)}`;
   }
 
+  #formatInsertionBetween({ left, value, right }) {
+    const numberOf = (neighbor) => (neighbor === null || neighbor === undefined ? 0 : this.#values.numberOf(neighbor));
+    return `insert ${numberOf(left)} ${this.#values.numberOf(value)} ${numberOf(right)}`;
+  }
+
   /** Formats the stamp of an LWW set's update, the identifiers of an OR-Set's update, or nothing for a list. */
   #formatKey(replica, { stamp, identifiers }) {
     if (this.kind === "lwwset") return this.#formatClock(replica, stamp);
@@ -128,7 +134,13 @@ export class Translator {
       throw new NotRepresentable(`a read returned ${inspect(value)}: expected ${expectedResult(this.kind)}`);
     }
     const numbers = Array.from(value, (it) => this.#values.numberOf(it));
-    return joinNumbers(this.kind === "rga" ? numbers : sortUnique(numbers));
+    return joinNumbers(LISTS.includes(this.kind) ? numbers : sortUnique(numbers));
+  }
+
+  /** Returns the last field of the line of a partial read of a list, which returned these elements. */
+  formatPart(elements) {
+    if (this.kind === "list") return this.formatResult(elements);
+    throw new NotRepresentable(`part is not a read of the kind ${this.kind}: it is one of the kind list`);
   }
 
   #isNothing(value) {
@@ -159,10 +171,18 @@ export class Translator {
       const anchor = fields[0] === "0" ? "at the beginning" : `behind ${this.#describeValue(fields[0])}`;
       return `inserts ${this.#describeValue(fields[1])} ${anchor}`;
     }
+    if (word === "insert") return this.#describeInsertion(...fields);
+    if (word === "part") return `shows ${this.#describeResult(fields[0])} in this order, perhaps with others between`;
     if (word === "inc" || word === "dec") return `${word}rements`;
     const verb = { write: "writes", add: "adds", remove: "removes" }[word];
     const under = fields.length > 1 ? ` under ${this.#describeIdentifiers(fields[1].slice(1))}` : "";
     return `${verb} ${this.#describeValue(fields[0])}${under}`;
+  }
+
+  #describeInsertion(left, element, right) {
+    const behind = left === "0" ? [] : [`behind ${this.#describeValue(left)}`];
+    const before = right === "0" ? [] : [`before ${this.#describeValue(right)}`];
+    return [`inserts ${this.#describeValue(element)}`, [...behind, ...before].join(" and ")].join(" ").trimEnd();
   }
 
   #describeResult(result) {

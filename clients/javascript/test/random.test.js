@@ -290,7 +290,7 @@ test("an empty list of seeds is rejected", async () => {
 });
 
 test("an unknown kind is rejected", async () => {
-  await assert.rejects(checkRandom(create(Counter), "list"), /unknown kind 'list': expected counter, /);
+  await assert.rejects(checkRandom(create(Counter), "bag"), /unknown kind 'bag': expected counter, /);
 });
 
 test("long runs report their progress", () => {

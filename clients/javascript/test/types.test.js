@@ -38,12 +38,12 @@ test("the package and a use of it have strict types", needsCompiler, () => {
 test("a wrong use is rejected", needsCompiler, () => {
   const source = `import { Recorder, checkRandom } from "yehatu";
     const checked: string = await checkRandom(3, "counter");
-    await new Recorder("list", ["a"]).increment("a", { amount: 3 });`;
+    await new Recorder("bag", ["a"]).increment("a", { amount: 3 });`;
   compile(source, ({ stdout, status }) => {
     assert.notEqual(status, 0);
     assert.match(stdout, /No overload matches this call|is not assignable to parameter of type 'MakeReplica'/);
     assert.match(stdout, /Type 'Runs' is not assignable to type 'string'/);
-    assert.match(stdout, /'"list"' is not assignable to parameter of type 'Kind'/);
+    assert.match(stdout, /'"bag"' is not assignable to parameter of type 'Kind'/);
     assert.match(stdout, /'amount' does not exist in type/);
   });
 });

@@ -4,6 +4,7 @@ import unittest
 from typing import Any
 
 from network_replicas import PLANTED, RIGHT, MergedCounter
+from list_replicas import Fugue
 from replicas import CORRECT
 from yehatu import NotLinearizable, ReportFailed
 from yehatu.profile import Profile
@@ -33,7 +34,7 @@ def run_plans(make: Any, kind: str, profile: Profile = Profile(), examples: int 
 @unittest.skipUnless(HAS_HYPOTHESIS, "hypothesis is not installed: apt-get install python3-hypothesis")
 class Hypothesis(unittest.TestCase):
     def test_plans_of_correct_replicas_pass(self) -> None:
-        for kind, make in CORRECT.items():
+        for kind, make in [*CORRECT.items(), ("list", Fugue)]:
             with self.subTest(kind=kind):
                 run_plans(make, kind)
         case = RIGHT["orset in any order"]

@@ -281,8 +281,8 @@ class OtherFailures(unittest.TestCase):
             check_random(ForksIntoNone, "counter", seeds=FOUND_WITHIN)
 
     def test_an_unknown_kind_is_rejected(self) -> None:
-        with self.assertRaisesRegex(NotRepresentable, "unknown kind 'list': expected counter, "):
-            check_random(Counter, "list")
+        with self.assertRaisesRegex(NotRepresentable, "unknown kind 'bag': expected counter, "):
+            check_random(Counter, "bag")
 
     def test_long_runs_report_their_progress(self) -> None:
         stderr = io.StringIO()

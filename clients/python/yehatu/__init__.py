@@ -8,7 +8,7 @@ from typing import Any as _Any
 
 from .errors import FlakyRun, MonitorExited, NotLinearizable, NotRepresentable, Refused, ReplicaRaised, ReportFailed
 from .monitor import Monitor, Report
-from .operations import Operation, add, decrement, increment, insert_after, remove, write
+from .operations import Operation, add, decrement, increment, insert, insert_after, remove, write
 from .random_runs import Runs, check_random, replay
 from .recorder import Recorder
 
@@ -29,6 +29,7 @@ __all__ = [
     "check_random",
     "decrement",
     "increment",
+    "insert",
     "insert_after",
     "remove",
     "replay",

@@ -1,7 +1,11 @@
 """Which updates were delivered to each replica, and which messages wait for others."""
 from typing import Any, Dict, List, Sequence, Tuple
 
+from .operations import LISTS
 from .steps import Step
+
+# The methods that insert an element, which is their second argument, and those that remove their first one.
+INSERTING, REMOVING = ("insert_after", "insert"), ("remove", "delete")
 
 
 class DeliveryState:
@@ -26,7 +30,7 @@ class DeliveryState:
         """Returns whether the update is new, and the replica shows the element that a list's update names."""
         if step.number in self._origins:
             return False
-        if self._kind != "rga" or step.arguments[0] is None:
+        if self._kind not in LISTS or step.arguments[0] is None:
             return True
         return step.arguments[0] in self.visible[step.replica]
 
@@ -104,9 +108,9 @@ class DeliveryState:
         issuer, position, _ = self._origins[update]
         step = self.issued[issuer][position]
         self.delivered[replica][issuer] = position + 1
-        if step.method == "insert_after":
+        if step.method in INSERTING:
             self.visible[replica].append(step.arguments[1])
-        elif step.method == "remove" and step.arguments[0] in self.visible[replica]:
+        elif step.method in REMOVING and step.arguments[0] in self.visible[replica]:
             self.visible[replica].remove(step.arguments[0])
 
     def is_behind(self, replica: int, sender: int) -> bool:

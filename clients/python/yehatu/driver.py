@@ -11,7 +11,7 @@ from .operations import Operation
 from .profile import Profile
 from .recorder import Recorder, Seen
 from .returned import Returned, UnusableResult
-from .steps import COPYING, Step
+from .steps import COPYING, Step, call_arguments
 from .translation import expected_result
 
 
@@ -72,9 +72,13 @@ class Driver:
         self._state = DeliveryState(setting.kind, len(setting.replicas))
         self.messages: Dict[int, Returned] = {}
         """What each update returned, by its number."""
+        self.indexes: Dict[int, int] = {}
+        """The index of each update of a list, by the update's number."""
         self._early: Dict[int, _Early] = {}
         self._saved: Dict[int, _Saved] = {}
         self._transcript = Transcript()
+        # The step that is being executed, or the read that is reported in its place.
+        self._current = Step("read", 0)
         # For each executed step, the number of lines after it.
         self._line_counts: List[int] = []
         names = [self._names[it] for it in initial]
@@ -95,15 +99,16 @@ class Driver:
         for step in steps:
             if (step.replica in self._replicas) == (step.action == "join"):
                 continue
+            self._current = step
             try:
                 is_executed = self._handlers[step.action](step)
             except NotRepresentable:
                 raise
             except Exception as error:  # Whatever the user's class raises is a failure of it.
-                self.executed.append(step)
+                self.executed.append(self._current)
                 return error
             if is_executed:
-                self.executed.append(step)
+                self.executed.append(self._current)
                 self._line_counts.append(len(self._transcript.lines))
         return None
 
@@ -120,18 +125,42 @@ class Driver:
     def _update(self, step: Step) -> bool:
         if not self._state.can_update(step):
             return False
-        message = getattr(self._replicas[step.replica], step.method)(*step.arguments)
+        neighbours: Tuple[Any, Any] = (None, None)
+        if self._kind == "list":
+            shown = self._shown_list(step)
+            if shown is None:
+                return True
+            self.indexes[step.number], neighbours = _place_of(step, shown)
+        message = getattr(self._replicas[step.replica], step.method)(*call_arguments(step, self.indexes))
         self._require_no_coroutine(step, message)
         self.messages[step.number] = Returned("message", step.number, message)
         name = self._names[step.replica]
         if step.arguments and self._kind == "counter":
             getattr(self.recorder, step.method)(name, step.arguments[0], message=step.number)
         else:
-            self.recorder.update(name, operation_of(self._kind, step, message), message=step.number)
+            operation = operation_of(self._kind, step, message, neighbours)
+            self.recorder.update(name, operation, message=step.number)
         self._state.update(step)
         if self._profile.restarts:
             self._save_state(step.replica)
         return True
+
+    def _shown_list(self, step: Step) -> Optional[List[Any]]:
+        """Returns the list that the replica shows before an update.
+
+        A list with other elements than those that were delivered is reported as a read, in the place of the update.
+        The result is `None` then.
+        """
+        value, expected = self._replicas[step.replica].read(), self._state.visible[step.replica]
+        try:
+            shown = [*value]
+        except TypeError:
+            shown = []
+        if len(shown) == len(expected) and all(it in shown for it in expected):
+            return shown
+        self._current = Step("read", step.replica)
+        self._report_read(self._current, value)
+        return None
 
     def _deliver(self, step: Step) -> bool:
         replica, number = step.replica, step.number
@@ -222,14 +251,16 @@ class Driver:
         return True
 
     def _read(self, step: Step) -> bool:
-        value = self._replicas[step.replica].read()
+        self._report_read(step, self._replicas[step.replica].read())
+        return True
+
+    def _report_read(self, step: Step, value: Any) -> None:
         self._require_no_coroutine(step, value)
         try:
             self.recorder.read(self._names[step.replica], value)
         except NotRepresentable as error:
             # Where this is raised is of no interest to the user.
             raise UnusableResult(value, expected_result(self._kind)) from error.with_traceback(None)
-        return True
 
     # Calls of the user's class.
 
@@ -272,10 +303,22 @@ def _copied(value: Any, what: str, option: str) -> Any:
         ) from error
 
 
-def operation_of(kind: str, step: Step, message: Any) -> Operation:
+def _place_of(step: Step, shown: List[Any]) -> Tuple[int, Tuple[Any, Any]]:
+    """Returns the index of a list's update, and the elements that the list shows on both sides of an insertion."""
+    named = step.arguments[0]
+    if step.method == "delete":
+        return shown.index(named), (None, None)
+    index = 0 if named is None else shown.index(named) + 1
+    return index, (named, shown[index] if index < len(shown) else None)
+
+
+def operation_of(kind: str, step: Step, message: Any, neighbours: Tuple[Any, Any]) -> Operation:
     """Returns the operation of an update, with the stamp or the identifiers of its message."""
     if kind == "counter":
         return Operation(step.method)
+    if kind == "list" and step.method == "insert":
+        left, right = neighbours
+        return operations.insert(left, step.arguments[1], right)
     if kind == "register":
         return operations.write(step.arguments[0], _stamp_of(step, message))
     if step.method == "insert_after":
@@ -286,7 +329,7 @@ def operation_of(kind: str, step: Step, message: Any) -> Operation:
         return operations.add(element, identifier=_field_of(message, "identifier"))
     if kind == "orset":
         return operations.remove(element, identifiers=_field_of(message, "identifiers"))
-    if kind == "rga":
+    if kind in operations.LISTS:
         return operations.remove(element)
     if step.method == "add":
         return operations.add(element, _stamp_of(step, message))

@@ -20,6 +20,12 @@ MEANINGS = {
     "stamp-taken": "another operation of its replica used this clock before",
     "id-taken": "another addition used this identifier before",
 }
+# The meanings of a list's violations.
+LIST_MEANINGS = {
+    "order": "no single order of the elements agrees with all reads and insertions",
+    "update": "it inserts an element that was inserted before, or names one that was not",
+    "query": "it does not follow from the updates that it sees",
+}
 NOT_CAUSAL = "refused not-causal "
 
 
@@ -121,7 +127,8 @@ class FailureReport:
         verdict = "not RA-linearizable" if reply.startswith("no ") else "refused"
         if self._translator.kind == "orset" and " remove " in self.commands[-1] and causes == ["query"]:
             return f"{verdict}, {self._describe_identifiers()}"
-        return f"{verdict}, {MEANINGS[causes[0]]}" if causes else reply
+        meanings = {**MEANINGS, **LIST_MEANINGS} if self._translator.kind == "list" else MEANINGS
+        return f"{verdict}, {meanings[causes[0]]}" if causes else reply
 
 
     def _describe_identifiers(self) -> str:

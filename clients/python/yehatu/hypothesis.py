@@ -10,9 +10,9 @@ from hypothesis import strategies
 from hypothesis.stateful import RuleBasedStateMachine, rule
 
 from . import program as programs
-from .delivery_state import DeliveryState
+from .delivery_state import REMOVING, DeliveryState
 from .driver import Setting
-from .operations import operations_of
+from .operations import LISTS, methods_of
 from .plans import BOUNDARIES, SET_ELEMENTS
 from .profile import Profile, Traits, default_names, traits_of
 from .program import Program
@@ -56,7 +56,7 @@ def plans(
     number = strategies.integers(0, CHOICES - 1)
     draws = strategies.tuples(
         strategies.sampled_from(actions), strategies.integers(0, len(names) - 1),
-        strategies.sampled_from([*(methods or operations_of(kind))]), number, number,
+        strategies.sampled_from([*(methods or methods_of(kind))]), number, number,
     )
 
     def build(drawn: List[Tuple[str, int, str, int, int]]) -> Plan:
@@ -88,11 +88,11 @@ class _Builder:
         number = len(self._updates) + 1
         visible = self._state.visible[replica]
         arguments: Tuple[Any, ...] = ()
-        if self._kind == "rga" and method == "remove":
+        if self._kind in LISTS and method in REMOVING:
             if not visible:
                 return None
             arguments = (visible[first % len(visible)],)
-        elif self._kind == "rga":
+        elif self._kind in LISTS:
             arguments = ([None, *visible][first % (len(visible) + 1)], number)
         elif self._kind == "register":
             arguments = (number,)

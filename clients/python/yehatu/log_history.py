@@ -6,7 +6,7 @@ from . import program as programs
 from .driver import Transcript
 from .errors import NotRepresentable
 from .failure_report import FailureReport
-from .log_lines import DELIVER, READ, CannotJudge, Event, LogFault, Place, thing
+from .log_lines import DELIVER, PART, READ, CannotJudge, Event, LogFault, Place, thing
 from .log_shapes import checked
 from .numbers import MAX_COMMANDS, MAX_REPLICAS, RankedClocks
 from .operations import Operation
@@ -70,6 +70,8 @@ class LogHistory(Reports):
                 self._deliver_message(replica, fields["message"])
             elif event.operation == READ:
                 self._read(replica, fields["value"])
+            elif event.operation == PART:
+                self._read_part(replica, fields["value"])
             else:
                 self._update(replica, _operations(event.operation, fields), fields.get("message"))
         except NotRepresentable as error:
@@ -84,7 +86,8 @@ def _operations(word: str, fields: Dict[str, Any]) -> Any:
     identifiers = fields.get("identifiers")
     if "identifier" in fields:
         identifiers = (fields["identifier"],)
-    return Operation(word, fields["value"], fields.get("anchor"), fields.get("stamp"), identifiers)
+    anchor = (fields["left"], fields["right"]) if word == "insert" else fields.get("anchor")
+    return Operation(word, fields["value"], anchor, fields.get("stamp"), identifiers)
 
 
 def judge(name: Hashable, kind: str, replicas: Sequence[Hashable], events: Sequence[Event], program: str) -> Judged:

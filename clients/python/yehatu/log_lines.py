@@ -7,7 +7,7 @@ from .errors import NotRepresentable
 from .operations import operations_of
 
 STANDARD_INPUT = "-"
-DELIVER, READ = "deliver", "read"
+DELIVER, READ, PART = "deliver", "read", "part"
 # The types of a completion or an invocation in a Jepsen history.
 JEPSEN_TYPES = ("invoke", "ok", "fail", "info")
 # The longest value that a message quotes.
@@ -219,11 +219,13 @@ FIELDS: Dict[str, Field] = {
     "replica": Field("the name of the replica, a string or a whole number", _key),
     "object": Field("the name of the object, a string or a whole number", _key),
     "operation": Field("what the replica did, such as read, deliver, write or add", _operation),
-    "kind": Field("one of counter, register, lwwset, orset, rga", _kind),
+    "kind": Field("one of counter, register, lwwset, orset, rga, list", _kind),
     "message": Field("the key of the update's message, a string or a whole number", _key),
     "stamp": Field("the clock of the update, a whole number or a string of digits", _clock),
     "identifier": Field("the identifier of the addition, a JSON value", thing),
     "identifiers": Field("the list of the identifiers that the removal names", things),
     "anchor": Field("the element in front, or null at the start of the list", _anchor),
+    "left": Field("the element that was shown in front, or null if there was none", _anchor),
+    "right": Field("the element that was shown behind, or null if there was none", _anchor),
     "value": Field("a JSON value", _as_it_is),
 }

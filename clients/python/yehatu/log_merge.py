@@ -1,7 +1,7 @@
 """One order of the events of several replicas: each replica's own, and each update before its deliveries."""
 from typing import Dict, Hashable, List, Optional, Sequence
 
-from .log_lines import DELIVER, READ, Event, LogFault, Place, shown
+from .log_lines import DELIVER, PART, READ, Event, LogFault, Place, shown
 
 # The largest number of lines that the fault of a cycle names.
 SHOWN_LINES = 4
@@ -27,7 +27,7 @@ class _Merge:
         for event in events:
             if event.operation == DELIVER and event.fields.get("message") not in self._senders:
                 raise _never_sent(event)
-        for event in sorted(events, key=lambda it: it.operation == READ):
+        for event in sorted(events, key=lambda it: it.operation in (READ, PART)):
             self._visit(event)
 
     def _visit(self, first: Event) -> None:

@@ -1,7 +1,7 @@
 """The fields of each operation in a log, and the conversion of its value."""
 from typing import Any, Dict, FrozenSet, NamedTuple, Tuple
 
-from .log_lines import DELIVER, FIELDS, READ, Event, LogFault, field_fault, missing_field, shown, thing, things
+from .log_lines import DELIVER, FIELDS, PART, READ, Event, LogFault, field_fault, missing_field, shown, thing, things
 from .operations import operations_of
 from .reports import MAX_AMOUNT
 from .translation import MAX_COUNT, MIN_COUNT
@@ -28,6 +28,9 @@ SHAPES: Dict[Tuple[str, str], Shape] = {
     ("orset", "remove"): Shape(("value",), frozenset(("identifiers", "message"))),
     ("rga", "insert_after"): Shape(("anchor", "value", "stamp"), frozenset(("message",))),
     ("rga", "remove"): Shape(("value",), frozenset(("message",))),
+    ("list", "insert"): Shape(("left", "value", "right"), frozenset(("message",))),
+    ("list", "remove"): Shape(("value",), frozenset(("message",))),
+    ("list", PART): Shape(("value",)),
 }
 
 
@@ -56,14 +59,14 @@ def _shape_of(event: Event, kind: str) -> Shape:
         return Shape(("value",))
     shape = SHAPES.get((kind, event.operation))
     if shape is None:
-        expected = ", ".join((*operations_of(kind), READ, DELIVER))
+        expected = ", ".join((*operations_of(kind), *((PART,) if kind == "list" else ()), READ, DELIVER))
         raise field_fault(event.place, "operation", event.operation, f"one of {expected} for the kind {kind}")
     return shape
 
 
 def _value_of(event: Event, kind: str) -> Any:
     value = event.fields["value"]
-    if event.operation == READ and kind != "counter":
+    if event.operation == PART or (event.operation == READ and kind != "counter"):
         return _result_of(event, kind)
     if kind == "counter":
         least, most = (MIN_COUNT, MAX_COUNT) if event.operation == READ else (1, MAX_AMOUNT)

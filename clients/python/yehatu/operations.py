@@ -1,4 +1,4 @@
-"""The operations of the five kinds, in the user's own names."""
+"""The operations of the six kinds, in the user's own names."""
 from typing import Any, Collection, Dict, Hashable, Iterable, NamedTuple, Optional, Tuple, Union
 
 from .errors import NotRepresentable
@@ -12,7 +12,10 @@ OPERATIONS: Dict[str, Tuple[str, ...]] = {
     "lwwset": ("add", "remove"),
     "orset": ("add", "remove"),
     "rga": ("insert_after", "remove"),
+    "list": ("insert", "remove"),
 }
+# The kinds whose elements have an order.
+LISTS = ("rga", "list")
 
 
 def operations_of(kind: str) -> Tuple[str, ...]:
@@ -22,12 +25,18 @@ def operations_of(kind: str) -> Tuple[str, ...]:
     return OPERATIONS[kind]
 
 
+def methods_of(kind: str) -> Tuple[str, ...]:
+    """Returns the methods of a replica of this kind that update it. Those of a list take an index."""
+    return ("insert", "delete") if kind == "list" else operations_of(kind)
+
+
 class Operation(NamedTuple):
     """An update, as `increment()`, `write(value, stamp)` and the other functions of this module create it."""
 
     word: str
     value: Any = None
     anchor: Any = None
+    """The anchor of an RGA's insertion, or both neighbours of a list's."""
     stamp: Optional[Stamp] = None
     identifiers: Optional[Collection[Hashable]] = None
 
@@ -71,3 +80,11 @@ def remove(
 def insert_after(anchor: Hashable, element: Hashable, stamp: Stamp) -> Operation:
     """Creates a list's insertion of this element directly behind the anchor, or at the start if that is None."""
     return Operation("insert_after", element, anchor, stamp)
+
+
+def insert(left: Optional[Hashable], element: Hashable, right: Optional[Hashable]) -> Operation:
+    """Creates a list's insertion of this element between two neighbours, which is for lists of any design.
+
+    The neighbours are the elements that the replica showed on both sides, or None where there was none.
+    """
+    return Operation("insert", element, (left, right))

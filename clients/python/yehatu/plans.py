@@ -3,8 +3,9 @@ import random
 import re
 from typing import Any, List, Set, Tuple, Union
 
-from .delivery_state import DeliveryState
+from .delivery_state import REMOVING, DeliveryState
 from .network import Network
+from .operations import LISTS, methods_of
 from .profile import Traits
 from .steps import Step
 
@@ -237,12 +238,12 @@ class Planner:
             return method, self._choose_amount() if self._traits.amounts else ()
         if self._kind == "register":
             return method, (self._new_value(),)
-        if self._kind != "rga":
+        if self._kind not in LISTS:
             return method, (self._random.choice(self._elements),)
         visible = self._state.visible[replica]
-        if method == "remove" and visible:
+        if method in REMOVING and visible:
             return method, (self._random.choice(visible),)
-        return "insert_after", (self._random.choice([None, *visible]), self._new_value())
+        return methods_of(self._kind)[0], (self._random.choice([None, *visible]), self._new_value())
 
     def _choose_amount(self) -> Tuple[int]:
         amount = self._random.choice([it for it in AMOUNTS if it == 1 or self._total + it <= MAX_TOTAL])

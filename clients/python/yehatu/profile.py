@@ -2,13 +2,16 @@
 import inspect
 from typing import Any, Callable, Dict, Hashable, List, Mapping, NamedTuple, Optional, Sequence, Tuple
 
-from .operations import operations_of
+from .operations import methods_of
 
 DELIVERIES = ("causal", "any")
 # Which parameter of a counter's update is an amount.
 AMOUNT_RULE = "an amount is the first parameter of each update and is named `by`"
 # The relative frequency of each method, unless the caller chooses others.
-WEIGHTS = {"increment": 1.0, "decrement": 1.0, "write": 1.0, "add": 2.0, "remove": 1.0, "insert_after": 3.0}
+WEIGHTS = {
+    "increment": 1.0, "decrement": 1.0, "write": 1.0, "add": 2.0, "remove": 1.0, "insert_after": 3.0, "insert": 3.0,
+    "delete": 1.0,
+}
 
 
 class Profile(NamedTuple):
@@ -28,7 +31,7 @@ class Traits(NamedTuple):
     """What the plans for a class depend on."""
 
     methods: Tuple[str, ...]
-    """The operations of its kind that it has."""
+    """The methods of its kind that it has."""
     merges: bool = False
     """Whether it merges states instead of receiving messages."""
     forks: bool = False
@@ -47,7 +50,7 @@ def traits_of(
 ) -> Traits:
     """Returns the traits of a class. Raises `TypeError` if it lacks a method or a counter's update requires a parameter
     that is no amount, and `ValueError` if it cannot keep what is promised."""
-    operations = operations_of(kind)
+    operations = methods_of(kind)
     replica = make_replica(name)
     merges = not _has(replica, "receive") and _has(replica, "merge")
     required = [operations[0], "read", *(("state", "merge") if merges else ("receive",))]

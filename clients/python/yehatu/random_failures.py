@@ -1,6 +1,6 @@
 """The exception for a failed random run: its message and its files."""
 import os
-from typing import Optional, Sequence, Tuple
+from typing import Mapping, Optional, Sequence, Tuple
 
 from .errors import FlakyRun, NotLinearizable, Refused, ReplicaRaised, ReportFailed
 from .failure_report import save_history
@@ -8,7 +8,7 @@ from .faults import describe_faults
 from .regression import Expected, regression_test
 from .returned import Changed, Unusable
 from .runs import Failure, Setting
-from .steps import RECEIVING, Step
+from .steps import RECEIVING, Step, call_arguments
 from .stored import Stored, store
 
 # The largest number of lines of a history that a message shows.
@@ -38,7 +38,8 @@ def create_error(
     if stored is None:
         expected = report.expected_read(explanation) if small.steps[-1].action == "read" else None
         parts += ["\nthe same as a test:\n", _indented(regression_test(
-            setting.make_replica, setting.kind, setting.replicas, small.steps, seed, expected and Expected(*expected),
+            setting.make_replica, setting.kind, setting.replicas, small.steps, seed, small.indexes,
+            expected and Expected(*expected),
             small.raised is not None and not isinstance(small.raised, Unusable), path,
         ))]
     details = "\n".join(parts).rstrip()
@@ -84,7 +85,7 @@ def _operation_of(setting: Setting, failure: Failure) -> str:
         report = failure.recorder.failure_report(failure.text)
         return report.describe(len(report.commands) - 1)
     outcome = str(raised) if isinstance(raised, Unusable) else f"raised {raised!r}"
-    return f"{describe_call(setting, failure.steps[-1])} {outcome}"
+    return f"{describe_call(setting, failure.steps[-1], failure.indexes)} {outcome}"
 
 
 def _describe_origin(setting: Setting, failure: Failure) -> str:
@@ -98,7 +99,7 @@ def _describe_origin(setting: Setting, failure: Failure) -> str:
         return ""
     action = "update" if what == "message" else "snapshot"
     returning = next(it for it in failure.steps if it.action == action and it.number == number)
-    line = f"{what} {number} was returned by {describe_call(setting, returning)}"
+    line = f"{what} {number} was returned by {describe_call(setting, returning, failure.indexes)}"
     if isinstance(raised, Changed):
         line += raised.change
     elif failure.messages[number].value is None:
@@ -150,10 +151,10 @@ def _indented(text: str) -> str:
     return "\n".join(f"    {it}" if it else "" for it in text.splitlines())
 
 
-def describe_call(setting: Setting, step: Step) -> str:
+def describe_call(setting: Setting, step: Step, indexes: Mapping[int, int]) -> str:
     """Returns the call of a replica's method that a step makes."""
     names: Sequence[object] = setting.replicas
-    name, arguments = names[step.replica], ", ".join(repr(it) for it in step.arguments)
+    name, arguments = names[step.replica], ", ".join(map(repr, call_arguments(step, indexes)))
     if step.action == "join":
         return f"{names[step.number]!r}: fork({name!r})"
     if step.action == "merge":

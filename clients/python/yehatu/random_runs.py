@@ -7,7 +7,7 @@ from typing import Union
 
 from . import program as programs
 from .errors import NotRepresentable
-from .operations import operations_of
+from .operations import methods_of
 from .plans import Planner, Seed, format_seed, parse_seed
 from .profile import AMOUNT_RULE, Traits, default_names, traits_of
 from .program import Program
@@ -31,7 +31,7 @@ class Runs(int):
     """The number of runs that passed."""
 
     unused: Tuple[str, ...] = ()
-    """The operations of the kind that the class does not have, so that they were not tried."""
+    """The methods of the kind that the class does not have, so that they were not tried."""
 
 
 class _Progress:
@@ -67,8 +67,9 @@ def check_random(
 
     Args:
         make_replica: Creates the replica of a name. A replica has the methods of its kind (`increment` and
-            `decrement`, `write(value)`, `add(element)` and `remove(element)`, or `insert_after(anchor, element)` and
-            `remove(element)`), `read()`, and `receive(message)`. A type that only grows has no `decrement` or `remove`.
+            `decrement`, `write(value)`, `add(element)` and `remove(element)`, `insert_after(anchor, element)` and
+            `remove(element)` for the kind `rga`, or `insert(index, element)` and `delete(index)` for the kind `list`),
+            `read()`, and `receive(message)`. A type that only grows has no `decrement`, `remove` or `delete`.
         replicas: The names of the replicas in the order in which the type breaks ties, lowest first, or their number.
         operations: The number of operations of a run.
         seeds: The seeds, such as 17 or "2-17" with the version of the planner, or their number, counted from 0.
@@ -173,7 +174,7 @@ def _finished(
 
 def _result(runs: int, kind: str, traits: Traits) -> Runs:
     result = Runs(runs)
-    result.unused = tuple(it for it in operations_of(kind) if it not in traits.methods)
+    result.unused = tuple(it for it in methods_of(kind) if it not in traits.methods)
     if result.unused:
         print(f"check_random {kind}: the type has no {', '.join(result.unused)}, so it was not tried", file=sys.stderr)
     if traits.untried:

@@ -112,6 +112,15 @@ class Recorder(Reports):
                 self._fail(error, "read", replica, value)
         return value
 
+    def part(self, replica: Hashable, elements: Any) -> Any:
+        """Reports a read of a part of a list: these elements are shown in this order, perhaps with others between.
+
+        The elements may be a function, which returns them. Returns the elements. It is for lists of the kind `list`
+        that are too long to be reported as a whole.
+        """
+        act = elements if callable(elements) else lambda: elements
+        return self._step("part", replica, act, self._read_part, _identity)
+
     def seen(self, replica: Hashable) -> Seen:
         """Returns the updates that were delivered to the replica so far, for a `merge` of its current state."""
         with self._lock:
@@ -191,6 +200,20 @@ class Recorder(Reports):
             return self._quick("insert_after", replica, element, anchor, stamp, None, message)
         report = self._issue_named("insert_after", element)
         return self._step("insert_after", replica, act, report, anchor, stamp, None, message)
+
+    def insert(
+        self, replica: Hashable, left: Optional[Hashable], element: Hashable, right: Optional[Hashable], *,
+        act: Act = None, message: Any = None,
+    ) -> Any:
+        """Reports an insertion into a list of the kind `list`, between two elements that the replica had.
+
+        They are mostly those that it showed on both sides. None says that there was none, or that it is unknown.
+        """
+        if act is None:
+            return self._quick("insert", replica, element, (left, right), None, None, message)
+        return self._step(
+            "insert", replica, act, self._issue_named("insert", element), (left, right), None, None, message
+        )
 
     # The end.
 

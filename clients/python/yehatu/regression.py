@@ -1,9 +1,10 @@
 """The source of a regression test for a small run."""
 import keyword
-from typing import Any, Callable, Dict, Hashable, List, NamedTuple, Optional, Sequence, Set
+from typing import Any, Callable, Dict, Hashable, List, Mapping, NamedTuple, Optional, Sequence, Set
 
 from .driver import initial_replicas
-from .steps import RECEIVING, Step
+from .operations import LISTS
+from .steps import RECEIVING, Step, call_arguments
 
 MAX_LINES = 30
 INDENT = " " * 8
@@ -18,8 +19,10 @@ class Expected(NamedTuple):
 class _Source:
     """The statements of the test, one step after another."""
 
-    def __init__(self, make: str, kind: str, names: Sequence[Hashable], steps: Sequence[Step]) -> None:
-        self._make, self._kind, self._names = make, kind, names
+    def __init__(
+        self, make: str, kind: str, names: Sequence[Hashable], steps: Sequence[Step], indexes: Mapping[int, int]
+    ) -> None:
+        self._make, self._kind, self._names, self._indexes = make, kind, names, indexes
         self._used = {it.number for it in steps if it.action in RECEIVING}
         self._restarts = {it.replica for it in steps if it.action == "restart"}
         self._received: Dict[int, List[str]] = {}
@@ -44,7 +47,8 @@ class _Source:
         replica = self.variable(step.replica)
         if step.action == "update":
             target = f"m{step.number} = " if step.number in self._used else ""
-            self.lines.append(f"{target}{replica}.{step.method}({', '.join(map(repr, step.arguments))})")
+            arguments = ", ".join(map(repr, call_arguments(step, self._indexes)))
+            self.lines.append(f"{target}{replica}.{step.method}({arguments})")
             self._save(step.replica)
         elif step.action == "deliver":
             self._receive(step.replica, f"receive(m{step.number})")
@@ -94,17 +98,17 @@ class _Source:
             elements = ", ".join(map(repr, sorted(expected)))
             self.lines.append(f"self.assertEqual(set({read}), {f'{{{elements}}}' if elements else 'set()'})")
         else:
-            self.lines.append(f"self.assertEqual({f'list({read})' if self._kind == 'rga' else read}, {expected!r})")
+            self.lines.append(f"self.assertEqual({f'list({read})' if self._kind in LISTS else read}, {expected!r})")
 
 
 def regression_test(
     make_replica: Callable[..., Any], kind: str, names: Sequence[Hashable], steps: Sequence[Step], seed: str,
-    expected: Optional[Expected], raises: bool, path: str,
+    indexes: Mapping[int, int], expected: Optional[Expected], raises: bool, path: str,
 ) -> str:
     """Returns the source of a test with the calls of the steps, or, if that is longer than 30 lines, with `replay`."""
     make, imports = _import_of(make_replica)
     begin = ["", "", "class Regression(unittest.TestCase):", f"    def test_seed_{seed.replace('-', '_')}(self):"]
-    source = _Source(make, kind, names, steps)
+    source = _Source(make, kind, names, steps, indexes)
     for step in steps[:-1] if expected else steps:
         source.add(step)
     if expected:

@@ -307,10 +307,13 @@ class Reports:
             raise NotRepresentable("the value is a coroutine, which no one awaits: read it, and report the result")
         self._post_result(replica, self._translator.format_result(value))
 
-    def _post_result(self, replica: int, result: str) -> None:
+    def _read_part(self, replica: int, elements: Any) -> None:
+        self._post_result(replica, self._translator.format_part(elements), "part")
+
+    def _post_result(self, replica: int, result: str, word: str = "read") -> None:
         label = self._labels
         self._labels = label + 1
-        self._post(f"{self._prefixes[replica]}read {result}\n", f"ok {label}")
+        self._post(f"{self._prefixes[replica]}{word} {result}\n", f"ok {label}")
 
     def _find_message(self, message: Hashable) -> Message:
         try:

@@ -23,6 +23,8 @@ class Failure(NamedTuple):
     raised: Optional[Exception] = None
     messages: Mapping[int, Returned] = {}
     """What each update returned, by its number, if a replica raised an exception."""
+    indexes: Mapping[int, int] = {}
+    """The index of each update of a list, by the update's number."""
 
 
 class Run:
@@ -45,12 +47,14 @@ class Run:
         if failed is not None:
             cause = ("no",) if replies[failed].startswith("no ") else ("refused", replies[failed].split(" ")[1])
             return Failure(
-                cause, driver.steps_to(failed), driver.recorder, driver.text(failed + 1), replies[: failed + 1]
+                cause, driver.steps_to(failed), driver.recorder, driver.text(failed + 1), replies[: failed + 1],
+                indexes=driver.indexes,
             )
         if raised is not None:
             cause = raised.failure if isinstance(raised, Unusable) else ("raised", type(raised).__name__)
             return Failure(
-                cause, driver.executed, driver.recorder, driver.text(), replies, raised, driver.messages
+                cause, driver.executed, driver.recorder, driver.text(), replies, raised, driver.messages,
+                driver.indexes,
             )
         return None
 

@@ -1,5 +1,5 @@
 """The steps of a random run, as plain values that can be stored."""
-from typing import Any, Dict, Iterable, List, NamedTuple, Sequence, Tuple
+from typing import Any, Dict, Iterable, List, Mapping, NamedTuple, Sequence, Tuple
 
 # The actions in which a replica receives the current state of another one, whose number the step has.
 COPYING = ("merge", "join")
@@ -23,6 +23,15 @@ class Step(NamedTuple):
     is taken early and merged late."""
     method: str = ""
     arguments: Tuple[Any, ...] = ()
+
+
+def call_arguments(step: Step, indexes: Mapping[int, int]) -> Tuple[Any, ...]:
+    """Returns the arguments of the call that an update makes. `indexes` has the index of each update of a list.
+
+    The first argument of a step of a list names an element: the one that is removed, or the one behind which the new
+    one is inserted. The call has an index instead.
+    """
+    return (indexes[step.number], *step.arguments[1:]) if step.number in indexes else step.arguments
 
 
 def to_values(steps: Iterable[Step]) -> List[List[Any]]:

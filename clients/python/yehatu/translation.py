@@ -3,9 +3,10 @@ from typing import Any, Callable, Collection, Dict, Hashable, Iterable, List, Op
 
 from .errors import NotRepresentable
 from .numbers import Clocks, Numbering, RankedClocks, Replicas
-from .operations import Stamp, operations_of
+from .operations import LISTS, Stamp, operations_of
 
-# Formats the value, the anchor, the stamp and the identifiers of an operation of the replica with this number.
+# Formats the value, the anchor or the neighbours, the stamp and the identifiers of an operation of the replica with
+# this number.
 Formatter = Callable[[int, Any, Any, Any, Any], str]
 
 # The fields of a counter's operations.
@@ -36,6 +37,7 @@ class Translator:
             "add": self._format_addition,
             "remove": self._format_removal,
             "insert_after": self._format_insertion,
+            "insert": self._format_insertion_between,
         }
         self.formatters = {it: formatters[it] for it in operations}
 
@@ -75,7 +77,7 @@ class Translator:
         return f"add {self.number_of(value)} #{_join_numbers(_sort_unique(identifiers or ()))}"
 
     def _format_removal(self, replica: int, value: Any, anchor: Any, stamp: Any, identifiers: Any) -> str:
-        if self.kind == "rga":
+        if self.kind in LISTS:
             return f"remove {self.number_of(value)}"
         if self.kind == "lwwset":
             return f"remove {self.number_of(value)} @{self._clock_number(replica, stamp)}"
@@ -84,6 +86,15 @@ class Translator:
     def _format_insertion(self, replica: int, value: Any, anchor: Any, stamp: Any, identifiers: Any) -> str:
         behind = 0 if anchor is None else self.number_of(anchor)
         return f"after {behind} {self.number_of(value)} @{self._clock_number(replica, stamp)}"
+
+    def _format_insertion_between(
+        self, replica: int, value: Any, neighbours: Any, stamp: Any, identifiers: Any
+    ) -> str:
+        left, right = neighbours
+        return f"insert {self._neighbour_number(left)} {self.number_of(value)} {self._neighbour_number(right)}"
+
+    def _neighbour_number(self, neighbour: Any) -> int:
+        return 0 if neighbour is None else self.number_of(neighbour)
 
     def _clock_number(self, replica: int, stamp: "Stamp | None") -> int:
         if stamp.__class__ is int:
@@ -117,7 +128,13 @@ class Translator:
                 f"a read returned {value!r}: expected {expected_result(self.kind)}"
             ) from None
         numbers = [*map(self.number_of, elements)]
-        return _join_numbers(numbers if self.kind == "rga" else _sort_unique(numbers))
+        return _join_numbers(numbers if self.kind in LISTS else _sort_unique(numbers))
+
+    def format_part(self, elements: Any) -> str:
+        """Returns the last field of the line of a partial read of a list, which returned these elements."""
+        if self.kind != "list":
+            raise NotRepresentable(f"part is not a read of the kind {self.kind}: it is one of the kind list")
+        return self.format_result(elements)
 
     # Descriptions of lines in the user's names.
 
@@ -139,11 +156,23 @@ class Translator:
         if word == "after":
             anchor = "at the beginning" if fields[0] == "0" else f"behind {self._values.thing_of(int(fields[0]))!r}"
             return f"inserts {self._values.thing_of(int(fields[1]))!r} {anchor}"
+        if word == "insert":
+            return self._describe_insertion(*map(int, fields))
+        if word == "part":
+            return f"shows {self._describe_result(fields[0])} in this order, perhaps with others between"
         if word in ("inc", "dec"):
             return {"inc": "increments", "dec": "decrements"}[word]
         verb = {"write": "writes", "add": "adds", "remove": "removes"}[word]
         under = f" under {self._describe_identifiers(fields[1][1:])}" if len(fields) > 1 else ""
         return f"{verb} {self._values.thing_of(int(fields[0]))!r}{under}"
+
+    def _describe_insertion(self, left: int, element: int, right: int) -> str:
+        inserted = f"inserts {self._values.thing_of(element)!r}"
+        behind = f"behind {self._values.thing_of(left)!r}" if left else ""
+        before = f"before {self._values.thing_of(right)!r}" if right else ""
+        if left and right:
+            return f"{inserted} {behind} and {before}"
+        return f"{inserted} {behind or before}".rstrip()
 
     def _describe_result(self, result: str) -> str:
         return repr(self.result_of(result))

@@ -152,7 +152,8 @@ impl<'a> FailureReport<'a> {
         if self.kind == Kind::OrSet && is_removal && reply.ends_with(" query") {
             return format!("{verdict}, {}", self.describe_identifiers());
         }
-        match reply.split(' ').find_map(meaning) {
+        let meaning_of = |it: &str| list_meaning(it).filter(|_| self.kind == Kind::List).or_else(|| meaning(it));
+        match reply.split(' ').find_map(meaning_of) {
             Some(it) => format!("{verdict}, {it}"),
             None => reply.to_string(),
         }
@@ -209,6 +210,16 @@ impl<'a> FailureReport<'a> {
             history: saved.ok(),
             steps: None,
         })
+    }
+}
+
+/// The meaning of a list's violation.
+fn list_meaning(cause: &str) -> Option<&'static str> {
+    match cause {
+        "order" => Some("no single order of the elements agrees with all reads and insertions"),
+        "update" => Some("it inserts an element that was inserted before, or names one that was not"),
+        "query" => Some("it does not follow from the updates that it sees"),
+        _ => None,
     }
 }
 

@@ -1,4 +1,4 @@
-//! The five kinds of data types, and the methods that a replica of each kind has.
+//! The six kinds of data types, and the methods that a replica of each kind has.
 
 use std::fmt;
 use std::str::FromStr;
@@ -16,8 +16,10 @@ pub enum Kind {
     LwwSet,
     /// A set in which a removal removes the additions that its replica has observed.
     OrSet,
-    /// A replicated growable array: a list or a text.
+    /// A replicated growable array: a list or a text whose elements are ordered by their clocks.
     Rga,
+    /// A list or a text of any design, which is judged without clocks.
+    List,
 }
 
 /// A method of a replica that updates it.
@@ -31,15 +33,27 @@ pub enum Method {
     Write,
     /// A set's addition.
     Add,
-    /// A removal from a set or a list.
+    /// A removal of an element from a set or an RGA.
     Remove,
-    /// A list's insertion.
+    /// An RGA's insertion behind an element.
     InsertAfter,
+    /// A list's insertion at an index.
+    Insert,
+    /// A list's removal at an index.
+    Delete,
 }
 
-const KINDS: [Kind; 5] = [Kind::Counter, Kind::Register, Kind::LwwSet, Kind::OrSet, Kind::Rga];
-const METHODS: [Method; 6] =
-    [Method::Increment, Method::Decrement, Method::Write, Method::Add, Method::Remove, Method::InsertAfter];
+const KINDS: [Kind; 6] = [Kind::Counter, Kind::Register, Kind::LwwSet, Kind::OrSet, Kind::Rga, Kind::List];
+const METHODS: [Method; 8] = [
+    Method::Increment,
+    Method::Decrement,
+    Method::Write,
+    Method::Add,
+    Method::Remove,
+    Method::InsertAfter,
+    Method::Insert,
+    Method::Delete,
+];
 
 impl Kind {
     /// Returns the name of the kind in the text format.
@@ -51,7 +65,13 @@ impl Kind {
             Kind::LwwSet => "lwwset",
             Kind::OrSet => "orset",
             Kind::Rga => "rga",
+            Kind::List => "list",
         }
+    }
+
+    /// Returns whether the elements of the kind have an order.
+    pub(crate) fn is_ordered(self) -> bool {
+        matches!(self, Kind::Rga | Kind::List)
     }
 
     /// Returns the methods of a replica of this kind. The first one is required, and the second one is not.
@@ -62,6 +82,7 @@ impl Kind {
             Kind::Register => &[Method::Write],
             Kind::LwwSet | Kind::OrSet => &[Method::Add, Method::Remove],
             Kind::Rga => &[Method::InsertAfter, Method::Remove],
+            Kind::List => &[Method::Insert, Method::Delete],
         }
     }
 }
@@ -95,6 +116,8 @@ impl Method {
             Method::Add => "add",
             Method::Remove => "remove",
             Method::InsertAfter => "insert_after",
+            Method::Insert => "insert",
+            Method::Delete => "delete",
         }
     }
 

@@ -148,7 +148,23 @@ impl Monitor {
         self.operate(replica, &format!("remove {element} #{sorted}"))
     }
 
-    /// Reports a list's insertion directly behind the anchor, or at the start if that is `None`.
+    /// Reports a list's insertion between two elements that the replica had: mostly those that it showed on both sides.
+    ///
+    /// `None` says that there was none, or that it is unknown. Returns the label. Elements are numbers from 1.
+    ///
+    /// # Errors
+    /// As [`Monitor::increment`].
+    pub fn insert(
+        &mut self,
+        replica: &str,
+        left: Option<u32>,
+        element: u32,
+        right: Option<u32>,
+    ) -> Result<Label, Error> {
+        self.operate(replica, &format!("insert {} {element} {}", left.unwrap_or(0), right.unwrap_or(0)))
+    }
+
+    /// Reports an RGA's insertion directly behind the anchor, or at the start if that is `None`.
     ///
     /// Returns its label. Elements are numbers from 1.
     ///
@@ -164,7 +180,7 @@ impl Monitor {
         self.operate(replica, &format!("after {} {element} @{clock}", anchor.unwrap_or(0)))
     }
 
-    /// Reports a list's removal of this element, and returns its label.
+    /// Reports a removal of this element from a list or an RGA, and returns its label.
     ///
     /// # Errors
     /// As [`Monitor::increment`].
@@ -195,10 +211,18 @@ impl Monitor {
     /// As [`Monitor::increment`].
     pub fn read_elements(&mut self, replica: &str, elements: &[u32]) -> Result<Label, Error> {
         let mut elements = elements.to_vec();
-        if self.kind != Kind::Rga {
+        if !self.kind.is_ordered() {
             elements = crate::numbers::sort_unique(elements);
         }
         self.operate(replica, &format!("read {}", join_numbers(&elements)))
+    }
+
+    /// Reports that a list shows these elements in this order, perhaps with others between.
+    ///
+    /// # Errors
+    /// As [`Monitor::increment`].
+    pub fn read_part(&mut self, replica: &str, elements: &[u32]) -> Result<Label, Error> {
+        self.operate(replica, &format!("part {}", join_numbers(elements)))
     }
 
     /// Reports that the update with this label was delivered to the replica and applied there.

@@ -1,4 +1,4 @@
-//! The operations of the five kinds and the results of reads, in the user's own names.
+//! The operations of the six kinds and the results of reads, in the user's own names.
 
 use crate::Kind;
 
@@ -45,7 +45,7 @@ pub enum Operation<V, I = u64> {
         /// the monitor does not check which ones were removed.
         identifiers: Option<Vec<I>>,
     },
-    /// A list's insertion.
+    /// An RGA's insertion.
     InsertAfter {
         /// The element directly behind which the new one is inserted, or `None` for the start.
         anchor: Option<V>,
@@ -54,7 +54,16 @@ pub enum Operation<V, I = u64> {
         /// The clock of the insertion.
         clock: u64,
     },
-    /// A list's removal.
+    /// A list's insertion, between two elements that its replica had: mostly those that it showed on both sides.
+    Insert {
+        /// The element in front, or `None` if there was none or it is unknown.
+        left: Option<V>,
+        /// The element that is inserted, which the list never had before.
+        element: V,
+        /// The element behind, or `None` if there was none or it is unknown.
+        right: Option<V>,
+    },
+    /// A removal from a list or an RGA.
     Delete {
         /// The element that is removed.
         element: V,
@@ -115,13 +124,19 @@ impl<V, I> Operation<V, I> {
         Operation::Remove { element, identifiers: Some(identifiers) }
     }
 
-    /// Creates a list's insertion directly behind the anchor, or at the start if that is `None`.
+    /// Creates a list's insertion between two neighbours, of which `None` says that there was none.
+    #[must_use]
+    pub fn insert(left: Option<V>, element: V, right: Option<V>) -> Self {
+        Operation::Insert { left, element, right }
+    }
+
+    /// Creates an RGA's insertion directly behind the anchor, or at the start if that is `None`.
     #[must_use]
     pub fn insert_after(anchor: Option<V>, element: V, clock: u64) -> Self {
         Operation::InsertAfter { anchor, element, clock }
     }
 
-    /// Creates a list's removal.
+    /// Creates a removal from a list or an RGA.
     #[must_use]
     pub fn delete(element: V) -> Self {
         Operation::Delete { element }
@@ -134,7 +149,9 @@ impl<V, I> Operation<V, I> {
             Operation::Write { .. } => kind == Kind::Register,
             Operation::AddAt { .. } | Operation::RemoveAt { .. } => kind == Kind::LwwSet,
             Operation::Add { .. } | Operation::Remove { .. } => kind == Kind::OrSet,
-            Operation::InsertAfter { .. } | Operation::Delete { .. } => kind == Kind::Rga,
+            Operation::InsertAfter { .. } => kind == Kind::Rga,
+            Operation::Insert { .. } => kind == Kind::List,
+            Operation::Delete { .. } => kind.is_ordered(),
         }
     }
 }

@@ -124,6 +124,14 @@ impl<N: Key, V: Key, M: Key, I: Key> Recorder<N, V, M, I> {
         self.lock().read(replica, value)
     }
 
+    /// Reports a read of a part of a list: these elements are shown in this order, perhaps with others between.
+    ///
+    /// # Errors
+    /// As [`Reports::part`].
+    pub fn part(&self, replica: &N, elements: &[V]) -> Result<(), Error> {
+        self.lock().part(replica, elements)
+    }
+
     /// Returns the updates that were delivered to the replica so far, for a [`merge`](Recorder::merge) of its current
     /// state.
     ///

@@ -199,6 +199,19 @@ impl<N: Key, V: Key, M: Key, I: Key> Reports<N, V, M, I> {
         self.operate(index, &format!("read {result}"))
     }
 
+    /// Reports a read of a part of a list: these elements are shown in this order, perhaps with others between.
+    ///
+    /// It is for lists of the kind [`Kind::List`] that are too long to be reported as a whole.
+    ///
+    /// # Errors
+    /// As [`Reports::update`].
+    pub fn part(&mut self, replica: &N, elements: &[V]) -> Result<(), Error> {
+        let describe = || format!("part({replica:?}, {elements:?})");
+        let index = self.enter(replica, describe)?;
+        let result = self.translator.format_part(elements).map_err(|it| self.fail(&describe(), &it))?;
+        self.operate(index, &format!("part {result}"))
+    }
+
     /// Returns the updates that were delivered to the replica so far, for a [`merge`](Reports::merge) of its current
     /// state.
     ///

@@ -77,6 +77,12 @@ impl<N: Key, V: Key, I: Key> Translator<N, V, I> {
                 let behind = anchor.as_ref().map_or(0, |it| self.values.number_of(it));
                 format!("after {behind} {} @{}", self.number_of(element), self.clocks.number_of(*clock)?)
             }
+            Operation::Insert { left, element, right } => {
+                let left = left.as_ref().map_or(0, |it| self.values.number_of(it));
+                let element = self.number_of(element);
+                let right = right.as_ref().map_or(0, |it| self.values.number_of(it));
+                format!("insert {left} {element} {right}")
+            }
             Operation::Delete { element } => format!("remove {}", self.number_of(element)),
         })
     }
@@ -87,7 +93,7 @@ impl<N: Key, V: Key, I: Key> Translator<N, V, I> {
             (Kind::Counter, Value::Count(count)) if i32::try_from(*count).is_ok() => Ok(count.to_string()),
             (Kind::Register, Value::Register(None)) => Ok(String::from("none")),
             (Kind::Register, Value::Register(Some(value))) => Ok(self.number_of(value).to_string()),
-            (Kind::Rga, Value::Elements(elements)) => Ok(join_numbers(&self.numbers_of(elements))),
+            (Kind::Rga | Kind::List, Value::Elements(elements)) => Ok(join_numbers(&self.numbers_of(elements))),
             (Kind::LwwSet | Kind::OrSet, Value::Elements(elements)) => {
                 Ok(join_numbers(&sort_unique(self.numbers_of(elements))))
             }
@@ -97,6 +103,17 @@ impl<N: Key, V: Key, I: Key> Translator<N, V, I> {
                 expected_result(self.kind)
             ))),
         }
+    }
+
+    /// Returns the last field of the line of a partial read of a list, which returned these elements.
+    pub(crate) fn format_part(&mut self, elements: &[V]) -> Result<String, Error> {
+        if self.kind == Kind::List {
+            return Ok(join_numbers(&self.numbers_of(elements)));
+        }
+        Err(Error::not_representable(format!(
+            "part is not a read of the kind {}: it is one of the kind list",
+            self.kind
+        )))
     }
 
     fn numbers_of(&mut self, values: &[V]) -> Vec<u32> {
@@ -134,6 +151,17 @@ impl<N: Key, V: Key, I: Key> Translator<N, V, I> {
             ["after", "0", element] => format!("inserts {} at the beginning", self.describe_value(element)),
             ["after", anchor, element] => {
                 format!("inserts {} behind {}", self.describe_value(element), self.describe_value(anchor))
+            }
+            ["insert", left, element, right] => {
+                let side = |word: &str, it: &str| {
+                    if it == "0" { None } else { Some(format!("{word} {}", self.describe_value(it))) }
+                };
+                let sides: Vec<String> = side("behind", left).into_iter().chain(side("before", right)).collect();
+                let inserted = format!("inserts {}", self.describe_value(element));
+                if sides.is_empty() { inserted } else { format!("{inserted} {}", sides.join(" and ")) }
+            }
+            ["part", result] => {
+                format!("shows {} in this order, perhaps with others between", self.describe_result(result))
             }
             ["inc"] => String::from("increments"),
             ["dec"] => String::from("decrements"),
@@ -202,6 +230,6 @@ pub(crate) fn expected_result(kind: Kind) -> &'static str {
     match kind {
         Kind::Counter => "Value::Count with a number from -2147483648 to 2147483647",
         Kind::Register => "Value::Register",
-        Kind::LwwSet | Kind::OrSet | Kind::Rga => "Value::Elements",
+        Kind::LwwSet | Kind::OrSet | Kind::Rga | Kind::List => "Value::Elements",
     }
 }

@@ -48,7 +48,9 @@ impl DeliveryState {
             return false;
         }
         match step.arguments.first() {
-            Some(Some(named)) if self.kind == Some(Kind::Rga) => self.visible[step.replica].contains(named),
+            Some(Some(named)) if self.kind.map_or(false, Kind::is_ordered) => {
+                self.visible[step.replica].contains(named)
+            }
             _ => true,
         }
     }
@@ -130,8 +132,10 @@ impl DeliveryState {
         self.delivered[replica][origin.replica] = origin.position + 1;
         let step = &self.issued[origin.replica][origin.position];
         match (step.method, &step.arguments[..]) {
-            (Some(Method::InsertAfter), [_, Some(element)]) => self.visible[replica].push(*element),
-            (Some(Method::Remove), [Some(removed), ..]) => self.visible[replica].retain(|it| it != removed),
+            (Some(Method::InsertAfter | Method::Insert), [_, Some(element)]) => self.visible[replica].push(*element),
+            (Some(Method::Remove | Method::Delete), [Some(removed), ..]) => {
+                self.visible[replica].retain(|it| it != removed);
+            }
             _ => {}
         }
     }

@@ -12,10 +12,13 @@ use super::replica::{Replica, Sent, Update};
 use super::steps::{initial_replicas, Action, Step};
 use crate::reports::{text_of, Reports, Seen, Sink};
 use crate::translation::{expected_result, Translator};
-use crate::{Error, Kind, Method, Operation};
+use crate::{Error, Kind, Method, Operation, Value};
 
 /// The reports of a random run: replicas by name, values and messages by number, identifiers as texts.
 pub(crate) type RunReports = Reports<String, u64, usize, String>;
+
+/// The index of each update of a list, by the update's number.
+pub(crate) type Indexes = BTreeMap<usize, usize>;
 
 /// A failure of the replica itself: the stored cause, and what the replica did, behind its call.
 #[derive(Clone, Debug)]
@@ -61,6 +64,8 @@ struct Saved<S> {
 pub(crate) struct Transcript {
     pub(crate) reports: RunReports,
     pub(crate) executed: Vec<Step>,
+    /// The index of each update of a list.
+    pub(crate) indexes: Indexes,
     /// For each executed step, the number of lines after it.
     line_counts: Vec<usize>,
 }
@@ -95,6 +100,8 @@ pub(crate) struct Driver<'a, R: Replica> {
     messages: HashMap<usize, R::Message>,
     early: HashMap<usize, Early<R::State>>,
     saved: HashMap<usize, Saved<R::State>>,
+    /// The step that is being executed, or the read that is reported in its place.
+    current: Step,
     transcript: Transcript,
 }
 
@@ -118,7 +125,8 @@ pub(crate) fn execute<R: Replica>(
         messages: HashMap::new(),
         early: HashMap::new(),
         saved: HashMap::new(),
-        transcript: Transcript { reports, executed: Vec::new(), line_counts: Vec::new() },
+        current: Step::new(Action::Read, 0, 0),
+        transcript: Transcript { reports, executed: Vec::new(), indexes: Indexes::new(), line_counts: Vec::new() },
     };
     let raised = match driver.run(&initial, steps) {
         Ok(()) => None,
@@ -140,15 +148,16 @@ impl<R: Replica> Driver<'_, R> {
             if self.replicas.contains_key(&step.replica) == (step.action == Action::Join) {
                 continue;
             }
+            self.current = step.clone();
             match self.execute(step) {
                 Ok(false) => {}
                 Ok(true) => {
-                    self.transcript.executed.push(step.clone());
+                    self.transcript.executed.push(self.current.clone());
                     let lines = self.transcript.lines().len();
                     self.transcript.line_counts.push(lines);
                 }
                 Err(stop) => {
-                    self.transcript.executed.push(step.clone());
+                    self.transcript.executed.push(self.current.clone());
                     return Err(stop);
                 }
             }
@@ -177,18 +186,51 @@ impl<R: Replica> Driver<'_, R> {
     }
 
     fn update(&mut self, step: &Step) -> Result<bool, Stop> {
-        let update = match update_of(step) {
-            Some(it) if self.state.can_update(step) => it,
-            _ => return Ok(false),
+        if !self.state.can_update(step) {
+            return Ok(false);
+        }
+        let mut right = None;
+        if R::KIND == Kind::List {
+            let place = match self.shown_list(step.replica)? {
+                Some(shown) => place_of(step, &shown),
+                None => return Ok(true),
+            };
+            self.transcript.indexes.extend(place.map(|it| (step.number, it.0)));
+            right = place.and_then(|it| it.1);
+        }
+        let update = match update_of(step, &self.transcript.indexes) {
+            Some(it) => it,
+            None => return Ok(false),
         };
         let sent = self.call(step.replica, |it| it.update(update))?;
         let name = self.name(step.replica);
-        let operations = operations_of(R::KIND, update, &sent)?;
+        let operations = match (R::KIND, &step.arguments[..]) {
+            (Kind::List, [left, Some(element)]) => vec![Operation::insert(*left, *element, right)],
+            (Kind::List, [Some(element)]) => vec![Operation::delete(*element)],
+            _ => operations_of(R::KIND, update, &sent)?,
+        };
         self.transcript.reports.compose(&name, &operations, step.number)?;
         self.messages.insert(step.number, sent.message);
         self.state.update(step);
         self.save_state(step.replica)?;
         Ok(true)
+    }
+
+    /// Returns the list that the replica shows before an update.
+    ///
+    /// A list with other elements than those that were delivered is reported as a read, in the place of the update. The
+    /// result is `None` then.
+    fn shown_list(&mut self, replica: usize) -> Result<Option<Vec<u64>>, Stop> {
+        let value = self.call(replica, |it| it.read())?;
+        let expected = &self.state.visible[replica];
+        if let Value::Elements(shown) = &value {
+            if shown.len() == expected.len() && expected.iter().all(|it| shown.contains(it)) {
+                return Ok(Some(shown.clone()));
+            }
+        }
+        self.current = Step::new(Action::Read, replica, 0);
+        self.report_read(replica, &value)?;
+        Ok(None)
     }
 
     fn deliver(&mut self, step: &Step) -> Result<bool, Stop> {
@@ -299,14 +341,18 @@ impl<R: Replica> Driver<'_, R> {
 
     fn read(&mut self, step: &Step) -> Result<bool, Stop> {
         let value = self.call(step.replica, |it| it.read())?;
-        let name = self.name(step.replica);
-        self.transcript.reports.read(&name, &value).map_err(|_| {
+        self.report_read(step.replica, &value)?;
+        Ok(true)
+    }
+
+    fn report_read(&mut self, replica: usize, value: &Value) -> Result<(), Stop> {
+        let name = self.name(replica);
+        self.transcript.reports.read(&name, value).map_err(|_| {
             Stop::Raised(Raised {
                 cause: vec![String::from("returned"), String::from("Value")],
                 outcome: format!("returned {value:?}: expected {}", expected_result(R::KIND)),
             })
-        })?;
-        Ok(true)
+        })
     }
 
     // Calls of the user's type.
@@ -372,8 +418,22 @@ impl<S> Received<S> {
     }
 }
 
-/// Returns the update of a step, or `None` if it has other arguments.
-pub(crate) fn update_of(step: &Step) -> Option<Update> {
+/// Returns the index of a list's update, and the element that the list shows behind an insertion.
+fn place_of(step: &Step, shown: &[u64]) -> Option<(usize, Option<u64>)> {
+    let place = |element: u64| shown.iter().position(|it| *it == element);
+    match (step.method?, step.arguments.first()?) {
+        (Method::Delete, Some(element)) => Some((place(*element)?, None)),
+        (Method::Insert, left) => {
+            let index = left.map_or(Some(0), |it| place(it).map(|before| before + 1))?;
+            Some((index, shown.get(index).copied()))
+        }
+        _ => None,
+    }
+}
+
+/// Returns the update of a step, or `None` if it has other arguments. Those of a list have an index.
+pub(crate) fn update_of(step: &Step, indexes: &Indexes) -> Option<Update> {
+    let index = indexes.get(&step.number).copied();
     match (step.method?, &step.arguments[..]) {
         (Method::Increment, []) => Some(Update::Increment(1)),
         (Method::Increment, [Some(by)]) => Some(Update::Increment(*by)),
@@ -382,6 +442,8 @@ pub(crate) fn update_of(step: &Step) -> Option<Update> {
         (Method::Write, [Some(value)]) => Some(Update::Write(*value)),
         (Method::Add, [Some(element)]) => Some(Update::Add(*element)),
         (Method::Remove, [Some(element)]) => Some(Update::Remove(*element)),
+        (Method::Insert, [_, Some(element)]) => Some(Update::Insert { index: index?, element: *element }),
+        (Method::Delete, [_]) => Some(Update::Delete { index: index? }),
         (Method::InsertAfter, [anchor, Some(element)]) => {
             Some(Update::InsertAfter { anchor: *anchor, element: *element })
         }
@@ -411,6 +473,8 @@ fn operations_of<M>(kind: Kind, update: Update, sent: &Sent<M>) -> Result<Vec<Op
             vec![Operation::Remove { element, identifiers: sent.identifiers.clone() }]
         }
         (Kind::Rga, Update::Remove(element)) => vec![Operation::delete(element)],
+        // The operations of a list name elements, which its updates do not.
+        (_, Update::Insert { .. } | Update::Delete { .. }) => Vec::new(),
         (_, Update::Add(element)) => vec![Operation::add_at(element, clock()?)],
         (_, Update::Remove(element)) => vec![Operation::remove_at(element, clock()?)],
     })

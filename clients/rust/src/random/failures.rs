@@ -2,7 +2,7 @@
 
 use std::path::{Path, PathBuf};
 
-use super::driver::update_of;
+use super::driver::{update_of, Indexes};
 use super::faults::describe_faults;
 use super::regression::regression_test;
 use super::replica::Replica;
@@ -133,7 +133,9 @@ pub(crate) fn create_flaky<R: Replica>(
 /// Returns a description of the last command, or the last call with what came of it.
 fn operation_of<R>(setting: &Setting<R>, failure: &FailedRun) -> String {
     match (&failure.raised, failure.steps.last()) {
-        (Some(raised), Some(step)) => format!("{} {}", describe_call(&setting.names, step), raised.outcome),
+        (Some(raised), Some(step)) => {
+            format!("{} {}", describe_call(&setting.names, step, &failure.indexes), raised.outcome)
+        }
         (Some(raised), None) => format!("creating a replica {}", raised.outcome),
         (None, _) => failure.reports.with_report(&failure.text, |it| it.describe_last()),
     }
@@ -189,12 +191,12 @@ pub(crate) fn require_writable(path: &Path) -> Result<(), Error> {
 }
 
 /// Returns the call of a replica's method that a step makes.
-fn describe_call(names: &[String], step: &Step) -> String {
+fn describe_call(names: &[String], step: &Step, indexes: &Indexes) -> String {
     let (name, number) = (&names[step.replica], step.number);
     let other = |it: usize| names.get(it).map_or("", String::as_str);
     let call = match step.action {
         Action::Update => {
-            update_of(step).map_or_else(|| String::from("update"), |it| format!("update(Update::{it:?})"))
+            update_of(step, indexes).map_or_else(|| String::from("update"), |it| format!("update(Update::{it:?})"))
         }
         Action::Deliver => format!("receive(message {number})"),
         Action::Duplicate => format!("receive(message {number}) again"),

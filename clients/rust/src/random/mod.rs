@@ -222,7 +222,7 @@ fn weights_of(methods: &[Method], chosen: &[(Method, f64)]) -> Result<Vec<f64>, 
         return Err(Error::invalid(format!("weight({unknown:?}, ..): expected a method of this type, {methods:?}")));
     }
     let default = |method: &Method| match method {
-        Method::InsertAfter => 3.0,
+        Method::InsertAfter | Method::Insert => 3.0,
         Method::Add => 2.0,
         _ => 1.0,
     };

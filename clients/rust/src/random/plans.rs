@@ -372,18 +372,18 @@ impl<'a> Planner<'a> {
             Kind::Counter => (method, Vec::new()),
             Kind::Register => (method, vec![Some(self.new_value())]),
             Kind::LwwSet | Kind::OrSet => (method, vec![Some(self.random.choice(&self.elements))]),
-            Kind::Rga => self.choose_list_operation(replica, method),
+            Kind::Rga | Kind::List => self.choose_list_operation(replica, method),
         }
     }
 
     fn choose_list_operation(&mut self, replica: usize, method: Method) -> (Method, Vec<Option<u64>>) {
         let visible = self.state.visible[replica].clone();
-        if method == Method::Remove && !visible.is_empty() {
+        if matches!(method, Method::Remove | Method::Delete) && !visible.is_empty() {
             return (method, vec![Some(self.random.choice(&visible))]);
         }
         let anchors: Vec<Option<u64>> = std::iter::once(None).chain(visible.into_iter().map(Some)).collect();
         let anchor = self.random.choice(&anchors);
-        (Method::InsertAfter, vec![anchor, Some(self.new_value())])
+        (self.traits.kind.methods()[0], vec![anchor, Some(self.new_value())])
     }
 
     fn choose_amount(&mut self) -> u64 {
@@ -415,7 +415,7 @@ mod tests {
 
     /// The number of characters of the JSON of the plans of the seeds 0 to 39, and its hash (FNV-1a, 32 bits), as the
     /// planner of the JavaScript client makes them.
-    const OF_JAVASCRIPT: [(Kind, &str, usize, u32); 8] = [
+    const OF_JAVASCRIPT: [(Kind, &str, usize, u32); 10] = [
         (Kind::Counter, "", 120_215, 3_851_845_206),
         (Kind::Counter, "any duplicates amounts forks", 149_056, 2_029_069_140),
         (Kind::Counter, "late_states restarts merges", 103_582, 4_158_336_308),
@@ -424,12 +424,14 @@ mod tests {
         (Kind::OrSet, "duplicates", 103_918, 3_545_625_790),
         (Kind::Rga, "", 103_121, 2_319_438_044),
         (Kind::Rga, "any duplicates restarts", 121_455, 3_005_722_084),
+        (Kind::List, "", 102_388, 1_760_752_243),
+        (Kind::List, "any duplicates forks", 106_459, 785_738_319),
     ];
 
     fn traits(kind: Kind, words: &str) -> Traits {
         let has = |word: &str| words.split(' ').any(|it| it == word);
         let weight = |it: &Method| match it {
-            Method::InsertAfter => 3.0,
+            Method::InsertAfter | Method::Insert => 3.0,
             Method::Add => 2.0,
             _ => 1.0,
         };

@@ -3,7 +3,7 @@
 use std::collections::{BTreeMap, BTreeSet};
 use std::path::Path;
 
-use super::driver::update_of;
+use super::driver::{update_of, Indexes};
 use super::replica::Replica;
 use super::runs::FailedRun;
 use super::steps::{initial_replicas, Action, Step};
@@ -50,6 +50,7 @@ struct Source<'a> {
     replica: &'a str,
     names: &'a [String],
     kind: Kind,
+    indexes: &'a Indexes,
     received: BTreeSet<usize>,
     restarting: BTreeSet<usize>,
     /// For each replica that restarts, what it received since it was stored.
@@ -58,11 +59,12 @@ struct Source<'a> {
 }
 
 impl<'a> Source<'a> {
-    fn new(replica: &'a str, names: &'a [String], small: &FailedRun, kind: Kind) -> Self {
+    fn new(replica: &'a str, names: &'a [String], small: &'a FailedRun, kind: Kind) -> Self {
         let steps = small.steps.iter();
         let received = steps.clone().filter(|it| it.action.receives()).map(|it| it.number).collect();
         let restarting = steps.filter(|it| it.action == Action::Restart).map(|it| it.replica).collect();
-        Source { replica, names, kind, received, restarting, since: BTreeMap::new(), lines: Vec::new() }
+        let (indexes, since) = (&small.indexes, BTreeMap::new());
+        Source { replica, names, kind, indexes, received, restarting, since, lines: Vec::new() }
     }
 
     fn body(mut self, steps: &[Step], expected: Option<&Value>) -> Vec<String> {
@@ -100,7 +102,7 @@ impl<'a> Source<'a> {
         match step.action {
             Action::Update => {
                 let target = if self.received.contains(&number) { format!("let m{number} = ") } else { String::new() };
-                let update = update_of(step).map_or_else(String::new, |it| format!("Update::{it:?}"));
+                let update = update_of(step, self.indexes).map_or_else(String::new, |it| format!("Update::{it:?}"));
                 let message = if target.is_empty() { "let _ = " } else { target.as_str() };
                 self.lines.push(format!("{message}{replica}.update({update}).message;"));
                 self.save(step.replica);

@@ -13,9 +13,21 @@ pub enum Update {
     Write(u64),
     /// A set's addition of this element.
     Add(u64),
-    /// A removal of this element from a set, or from a list that shows it.
+    /// A removal of this element from a set, or from an RGA that shows it.
     Remove(u64),
-    /// A list's insertion of an element that it never had.
+    /// A list's insertion of an element that it never had. A list is of the kind [`Kind::List`].
+    Insert {
+        /// The place of the new element in the list that is shown, counted from 0.
+        index: usize,
+        /// The new element.
+        element: u64,
+    },
+    /// A list's removal of the shown element at this index.
+    Delete {
+        /// The place of the element in the list that is shown, counted from 0.
+        index: usize,
+    },
+    /// An RGA's insertion of an element that it never had.
     InsertAfter {
         /// The element directly behind which the new one is inserted, or `None` for the start.
         anchor: Option<u64>,

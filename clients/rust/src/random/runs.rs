@@ -3,7 +3,7 @@
 use std::marker::PhantomData;
 use std::path::PathBuf;
 
-use super::driver::{execute, Raised, RunReports, Transcript};
+use super::driver::{execute, Indexes, Raised, RunReports, Transcript};
 use super::options::Profile;
 use super::replica::Replica;
 use super::steps::Step;
@@ -23,6 +23,7 @@ pub(crate) struct FailedRun {
     /// `no`; `refused` and the reason; `raised` and `panic`; or `returned` and `Value`.
     pub(crate) cause: Vec<String>,
     pub(crate) steps: Vec<Step>,
+    pub(crate) indexes: Indexes,
     pub(crate) reports: RunReports,
     pub(crate) text: String,
     pub(crate) replies: Vec<String>,
@@ -61,13 +62,14 @@ impl Run {
             };
             let steps = self.transcript.steps_to(failed).to_vec();
             let text = self.transcript.text(Some(failed + 1));
-            let reports = self.transcript.reports;
-            return Ok(Some(FailedRun { cause, steps, reports, text, replies, raised: None }));
+            let (reports, indexes) = (self.transcript.reports, self.transcript.indexes);
+            return Ok(Some(FailedRun { cause, steps, indexes, reports, text, replies, raised: None }));
         }
         Ok(self.raised.map(|raised| FailedRun {
             cause: raised.cause.clone(),
             text: self.transcript.text(None),
             steps: self.transcript.executed,
+            indexes: self.transcript.indexes,
             reports: self.transcript.reports,
             replies,
             raised: Some(raised),

@@ -1,8 +1,8 @@
 //! Types of the crate `crdts` as replicas that the Rust client tests in random runs. Their states are merged.
 //!
 //! The number `BUG` plants a bug in the code round a type; with 0 the unchanged type is tested. Of the other types of
-//! `crdts`, `MVReg` keeps concurrent values, and `List` orders concurrent insertions by another rule than an RGA. So
-//! none of the five kinds judges them.
+//! `crdts`, `MVReg` keeps concurrent values, which no kind judges, and `List` is one of the kind `list`, which has no
+//! replica here yet.
 
 #![forbid(unsafe_code)]
 
