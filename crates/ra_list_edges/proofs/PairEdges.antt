@@ -7,7 +7,7 @@ use Rattle.ra_labels.proofs.Members.{head_or_behind, at_head, behind_head, none_
 use Rattle.ra_labels.specs.declared.edge.Edge.{Edge}
 use Rattle.ra_labels.specs.Edges.{HasEdge, IsCycle}
 use Rattle.ra_labels.specs.Reads.{edges_of_read}
-use Rattle.ra_list_edges.specs.Pairs.{AddsSome, AddsPairs, with_pairs}
+use Rattle.ra_list_edges.specs.Pairs.{AddsSome, AddsPairs, HasEdgeAt, HasEdgesBut, with_pairs}
 
 abbrev pub edge_of : ℕ → ℕ → ℕ → Edge
 edge_of label x y = record { before = x; after = y; label = label }
@@ -30,6 +30,30 @@ pair_among label list i some within =
     let next : suc (i - 1) ≡ i = omega arith in
     subst (λ k. Contains (edges_of_read label list) (edge_of label (get_or list (i - 1) 0) (get_or list k 0))) next
     (pair_there label list (i - 1) (omega arith))
+
+-- holds if the edge is from the element at this index to the next one
+abbrev pub IsPairAt : ℕ → List ℕ → ℕ → Edge → Type 0
+IsPairAt label list i edge =
+    (suc i < length list) × (edge ≡ edge_of label (get_or list i 0) (get_or list (suc i) 0))
+
+pub pair_index : (label : ℕ) (list : List ℕ) (edge : Edge) → Contains (edges_of_read label list) edge
+    → (i : ℕ) × IsPairAt label list i edge
+pair_index label [] edge there = absurd (none_there edge there)
+pair_index label (x ∷ []) edge there = absurd (none_there edge there)
+pair_index label (x ∷ y ∷ list) edge there =
+    elim (head_or_behind (edge_of label x y) (edges_of_read label (y ∷ list)) edge there) [
+      | inl here ↦ (zero, (omega arith, sym here))
+      | inr further ↦
+          let (i, (within, is)) = pair_index label (y ∷ list) edge further in (suc i, (omega arith, is))
+    ]
+
+pub pair_from_index : (label : ℕ) (list : List ℕ) (edge : Edge) (i : ℕ) → IsPairAt label list i edge
+    → Contains (edges_of_read label list) edge
+pair_from_index label list edge i (within, is) =
+    let back : suc i - 1 ≡ i = omega arith in
+    subst (Contains (edges_of_read label list)) (sym is)
+    (subst (λ j. Contains (edges_of_read label list) (edge_of label (get_or list j 0) (get_or list (suc i) 0))) back
+    (pair_among label list (suc i) (omega arith) within))
 
 -- one more element adds the pair with the one before
 pairs_push : (label : ℕ) (list : List ℕ) (j : ℕ) → suc j < length list
@@ -133,3 +157,41 @@ edge_added items (Ok None) old new edge Same is =
     (edge, subst (λ es. Contains es edge) (sym is) (Contains-append_right old (edge ∷ []) edge (at_head edge [] edge refl)), refl, refl)
 edge_added items (Ok (Some cycle)) old new edge Same is = is.1
 edge_added items (Err e) old new edge Same is = tt
+
+-- edges that were there are there after an operation
+pub has_more : (old added : List Edge) (a b : ℕ) → HasEdge old a b → HasEdge (old ++ added) a b
+has_more old added a b (edge, there, before, after) =
+    (edge, Contains-append_left old added edge there, before, after)
+
+pub has_after : (label : ℕ) (list : List ℕ) (old new : List Edge) (a b : ℕ) → AddsSome label list old new
+    → HasEdge old a b → HasEdge new a b
+has_after label list old new a b (added, is, among) has = subst (λ es. HasEdge es a b) (sym is) (has_more old added a b has)
+
+-- the edges that were there, and those of the other indexes, are all edges of the list
+pub adds_at : (label : ℕ) (list places : List ℕ) (old new : List Edge) → HasEdgesBut old list places
+    → AddsSome label list old new → ((i : ℕ) → Contains places i → HasEdgeAt new list i) → AddsPairs label list old new
+adds_at label list places old new others some added = record {
+  some = some;
+  all = λ edge there.
+      let (i, (within, is)) = pair_index label list edge there in
+      let at : HasEdgeAt new list (suc i) = elim (others.rest (suc i) (omega arith) within) [
+        | inl place ↦ added (suc i) place
+        | inr had ↦ has_after label list old new (get_or list (suc i - 1) 0) (get_or list (suc i) 0) some had
+      ] in
+      subst (λ (e : Edge). HasEdge new e.before e.after) (sym is)
+      (subst (λ j. HasEdge new (get_or list j 0) (get_or list (suc i) 0)) (omega arith) at);
+}
+
+-- the edges at the indexes so far, with one more
+pub at_more : (list places : List ℕ) (k : ℕ) (now new : List Edge) (edge : Edge) → k < length places
+    → ((i : ℕ) → Contains (take k places) i → HasEdgeAt now list i) → (new ≡ now) ⊎ (new ≡ now ++ edge ∷ [])
+    → HasEdgeAt new list (get_or places k 0) → (i : ℕ) → Contains (take (k + 1) places) i → HasEdgeAt new list i
+at_more list places k now new edge within before step last i there =
+    elim (Contains-append_cases (take k places) (get_or places k 0 ∷ []) i
+    (subst (λ is. Contains is i) (take_more places k 0 within) there)) [
+      | inl earlier ↦ has_still now new edge (get_or list (i - 1) 0) (get_or list i 0) (before i earlier) step
+      | inr here ↦ elim (head_or_behind (get_or places k 0) [] i here) [
+        | inl same ↦ subst (HasEdgeAt new list) same last
+        | inr further ↦ absurd (none_there i further)
+      ]
+    ]

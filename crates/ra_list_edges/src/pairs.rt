@@ -3,7 +3,7 @@ ghost use Rattle.std.specs.Prelude.{◌≡◌, ℕ, ◌⊎◌, ◌++◌, ◌∷�
 ghost use Rattle.std.specs.List.Sorted.{IsPermutation};
 ghost use Rattle.ra_labels.specs.declared.edge.Edge.{Edge};
 ghost use Rattle.ra_labels.specs.Edges.{HasEdge, IsCycle};
-ghost use Rattle.ra_list_edges.specs.Pairs.{AddsPairs, AddsSome, with_pairs};
+ghost use Rattle.ra_list_edges.specs.Pairs.{AddsPairs, AddsSome, HasEdgesBut, with_pairs};
 
 use ra_labels::{Edge, NoMemory};
 use ra_list_order::ListOrder;
@@ -33,6 +33,39 @@ pub fn add_pairs(
 {
     for i in 1..list.len() {
         if let Some(cycle) = add_edge(alloc, order, list[i - 1], list[i], label)? {
+            return Ok(Some(cycle));
+        }
+    }
+    Ok(None)
+}
+
+/// Does the same for a list whose other elements have an edge from the one before them: only the edges to the elements
+/// at these indexes are looked up.
+///
+/// # Errors
+///
+/// `NoMemory` if allocation fails.
+///
+/// # Complexity
+///
+/// O(log n) with `n` edges for each index, and one `ListOrder::add` for each edge that is added.
+pub fn add_pairs_at(
+    alloc: Global,
+    order: &mut ListOrder,
+    list: &[u32],
+    places: &[usize],
+    label: u32,
+) -> Result<Option<Vec<Edge>>, NoMemory>
+    requires listed { (x : ℕ) → Contains list.now x → Contains order.old.order x }
+    requires others { HasEdgesBut order.old.edges list.now places.now }
+    ensures elements { IsPermutation order.old.order order.new.order }
+    ensures some { AddsSome label list.now order.old.edges order.new.edges }
+    ensures answer { IfOk result (λ found. MatchOption found (AddsPairs label list.now order.old.edges order.new.edges)
+        (λ cycle. IsCycle (with_pairs label list.now order.old.edges) cycle.items)) }
+{
+    for place in places {
+        let (before, after) = (list[*place - 1], list[*place]);
+        if let Some(cycle) = add_edge(alloc, order, before, after, label)? {
             return Ok(Some(cycle));
         }
     }

@@ -1,7 +1,7 @@
 //! Tests of what no clause states: calls succeed, and can be repeated after a failed allocation.
 ghost use Rattle.std.specs.Prelude.{◌≡◌, ℕ, Contains};
 
-use crate::{add_insertion, add_read};
+use crate::{add_insertion, add_part};
 use ra_labels::{Insertion, NoMemory};
 use ra_list_order::ListOrder;
 use std::alloc::Global;
@@ -28,7 +28,7 @@ fn inserts(
     Ok(add_insertion(alloc, order, insertion, label)?.is_none())
 }
 
-// Adds a read of two elements, again if an allocation fails. Returns `true` if it closes no cycle.
+// Adds a part of two elements, again if an allocation fails. Returns `true` if it closes no cycle.
 fn reads(
     rt: &impl Abort,
     alloc: Global,
@@ -39,13 +39,13 @@ fn reads(
     let edges = order.edge_count();
     assert!(rt; order.contains(list[0]));
     assert!(rt; order.contains(list[1]));
-    if let Ok(cycle) = add_read(alloc, order, &list, label) {
+    if let Ok(cycle) = add_part(alloc, order, &list, label) {
         return Ok(cycle.is_none());
     }
     assert_eq!(rt; order.edge_count(), edges);
     assert!(rt; order.contains(list[0]));
     assert!(rt; order.contains(list[1]));
-    Ok(add_read(alloc, order, &list, label)?.is_none())
+    Ok(add_part(alloc, order, &list, label)?.is_none())
 }
 
 const fn insertion(left: u32, element: u32, right: u32) -> Insertion {

@@ -21,7 +21,7 @@ use Rattle.ra_list_replica.specs.declared.mark.Mark.TheVariants.{Shown, Removed}
 use Rattle.ra_list_replica.specs.Numbers.{HasOneNumberEach}
 use Rattle.ra_list_replica.specs.View.{View, mark_at}
 use Rattle.ra_list_witness.specs.ListWitness.{ListWitness, no_view, view_at, mark_of, AreSameMarks, IsMarked}
-use Rattle.ra_list_witness.proofs.AdjacentPairs.{has_after}
+use Rattle.ra_list_edges.proofs.PairEdges.{has_after}
 use Rattle.ra_labels.specs.declared.list_operation.ListOp.TheVariants as op
 use Rattle.ra_labels.specs.declared.list_operation.ListUpdate.{ListUpdate}
 use Rattle.ra_labels.specs.declared.list_operation.ListUpdate.TheVariants.{Put, Hide}

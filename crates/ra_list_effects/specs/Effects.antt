@@ -57,7 +57,7 @@ IsFoundFor effects replica (op.Remove x) (found.Element number) =
     IsHadAs effects.witness.elements (view_at effects.witness.views replica).marks x number
 IsFoundFor effects replica (op.Read list) (found.Read listed) =
     AreNumbersOf effects.witness.elements list listed.numbers.items
-    × AreAsLast (view_at effects.witness.views replica).last listed.numbers.items listed.start listed.end
+    × AreAsLast (view_at effects.witness.views replica).last listed.numbers.items listed.places.items
 IsFoundFor effects replica (op.Part list) found.Part =
     IsPart effects.witness.elements (view_at effects.witness.views replica).marks list
 IsFoundFor effects replica operation other = ⊥

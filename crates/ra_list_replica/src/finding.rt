@@ -1,10 +1,11 @@
-//! The numbers of a list's elements, most of which the replica's last read shows.
-ghost use Rattle.std.specs.Prelude.{◌≡◌, ℕ, ◌≤◌, ◌-◌, ◌++◌, true, false, List, length, map, take, drop, Some, IfOk, MatchOption};
+//! The numbers of a list's elements, most of which follow each other in the replica's last read too.
+ghost use Rattle.std.specs.Prelude.{◌≡◌, ◌⊎◌, ◌<◌, ◌++◌, ◌∷◌, [], length, get_or, Some, IsTrue, IfOk, OnOk, MatchOption};
 ghost use Rattle.std.specs.List.{slice_get};
 ghost use Rattle.ra_list_replica.specs.Numbers.{AreNumbersOf, HasUnnumbered};
 ghost use Rattle.ra_list_replica.specs.Listing.{AreAsLast};
 
 use crate::element_numbers::ElementNumbers;
+use crate::mark::Mark;
 use ra_labels::NoMemory;
 use std::alloc::Global;
 
@@ -13,14 +14,14 @@ use std::alloc::Global;
 pub struct Listed {
     /// The numbers, in the order of the list.
     pub numbers: Vec<u32>,
-    /// How many elements at the front are those of the last read.
-    pub start: usize,
-    /// The index from which on the elements are those at the back of the last read.
-    pub end: usize,
+    /// The indexes of the elements, except the first one, that do not follow the one before them in the last read too.
+    pub places: Vec<usize>,
 }
 
-/// Returns the numbers of the elements of a list, or `None` if one of them has no number. The elements with which the
-/// last read begins or ends too are not looked up.
+/// Returns the numbers of the elements of a list, or `None` if one of them has no number.
+///
+/// The list is compared with the last read: what was removed since is passed over there, and what was inserted since is
+/// looked up. So most elements are not looked up.
 ///
 /// # Errors
 ///
@@ -28,80 +29,109 @@ pub struct Listed {
 ///
 /// # Complexity
 ///
-/// O(n + m log k) for `n` elements, `m` of which are looked up among `k`.
+/// O(n + l + m log k) for `n` elements, `l` of the last read and `k` numbered ones. `m` elements are looked up: those
+/// inserted since the last read, and from the first one on that the last read has in another order, all.
 pub fn numbers_of(
     alloc: Global,
     elements: &ElementNumbers,
+    marks: &[Mark],
     last: &[u32],
     list: &[u32],
 ) -> Result<Option<Listed>, NoMemory>
     ensures numbers { IfOk result (λ found. MatchOption found (HasUnnumbered elements.now list.now)
         (λ listed. AreNumbersOf elements.now list.now listed.numbers.items)) }
     ensures as_last { IfOk result (λ found. MatchOption found (Unit {0})
-        (λ listed. AreAsLast last.now listed.numbers.items listed.start listed.end)) }
+        (λ listed. AreAsLast last.now listed.numbers.items listed.places.items)) }
 {
-    let start = same_front(elements, last, list);
-    let most = last.len().min(list.len()) - start;
-    let back = same_back(elements, last, list, most);
-    let end = list.len() - back;
     let mut numbers = Vec::with_capacity(alloc, list.len())?;
-    numbers.extend_from_slice(&last[..start])?;
-    if !push_numbers(&mut numbers, elements, &list[start..end])? {
-        return Ok(None);
+    let mut places = Vec::new(alloc);
+    // The last read up to this index is compared, and `follows` says whether the element before is the last of these.
+    let mut next = 0;
+    let mut follows = false;
+    for element in list {
+        let at = first_not_removed(marks, last, next);
+        if is_at(elements, last, at, *element) {
+            if !follows || at != next {
+                push_place(&mut places, numbers.len())?;
+            }
+            numbers.push(last[at])?;
+            next = at + 1;
+            follows = true;
+        } else {
+            let Some(number) = elements.number_of(*element) else {
+                return Ok(None);
+            };
+            push_place(&mut places, numbers.len())?;
+            numbers.push(number)?;
+            next = at;
+            follows = false;
+        }
     }
-    numbers.extend_from_slice(&last[last.len() - back..])?;
-    Ok(Some(Listed {
-        numbers,
-        start,
-        end,
-    }))
+    Ok(Some(Listed { numbers, places }))
 }
 
-// Returns how many elements at the front of the list are those of the numbers.
-fn same_front(elements: &ElementNumbers, numbers: &[u32], list: &[u32]) -> usize
-    ensures numbers { result ≤ length numbers.now }
-    ensures list { result ≤ length list.now }
-    ensures same { AreNumbersOf elements.now (take result list.now) (take result numbers.now) }
+// Returns the first index from this one on at which the number is not removed, or the length if there is none.
+fn first_not_removed(marks: &[Mark], numbers: &[u32], from: usize) -> usize {
+    let mut index = from;
+    while index < numbers.len() && is_removed(marks, numbers[index]) {
+        index += 1;
+    }
+    index
+}
+
+// Returns `true` if the number at this index is that of the element.
+fn is_at(elements: &ElementNumbers, numbers: &[u32], index: usize, element: u32) -> bool
+    ensures { IsTrue result → (index < length numbers.now)
+        × (slice_get elements.now (get_or numbers.now index 0) ≡ Some element) }
 {
-    let most = numbers.len().min(list.len());
-    let mut front = 0;
-    while front < most && elements.element(numbers[front]) == Some(list[front]) {
-        front += 1;
+    match numbers.get(index) {
+        Some(number) => elements.element(*number) == Some(element),
+        None => false,
     }
-    front
 }
 
-// Returns how many elements at the back of the list are those of the numbers, at most the given number.
-fn same_back(elements: &ElementNumbers, numbers: &[u32], list: &[u32], most: usize) -> usize
-    requires numbers { most ≤ length numbers.now }
-    requires list { most ≤ length list.now }
-    ensures few { result ≤ most }
-    ensures same { AreNumbersOf elements.now (drop (length list.now - result) list.now)
-        (drop (length numbers.now - result) numbers.now) }
+// Appends an index, unless it is that of the first element.
+fn push_place(places: &mut Vec<usize>, index: usize) -> Result<(), NoMemory>
+    ensures { OnOk result (((index ≡ 0) × (places.new.items ≡ places.old.items))
+        ⊎ ((0 < index) × (places.new.items ≡ places.old.items ++ index ∷ []))) }
 {
-    let (n, l) = (numbers.len(), list.len());
-    let mut back = 0;
-    while back < most && elements.element(numbers[n - back - 1]) == Some(list[l - back - 1]) {
-        back += 1;
+    if index > 0 {
+        places.push(index)?;
     }
-    back
+    Ok(())
 }
 
-// Appends the number of each element and returns `true`, or returns `false` if one of them has no number.
-fn push_numbers(
-    numbers: &mut Vec<u32>,
+// Returns `true` if the number is removed.
+fn is_removed(marks: &[Mark], number: u32) -> bool {
+    match marks.get(number as usize) {
+        Some(mark) => *mark == Mark::Removed,
+        None => false,
+    }
+}
+
+/// Returns the number of each element, or `None` if one of them has none.
+///
+/// # Errors
+///
+/// `NoMemory` if allocation fails.
+///
+/// # Complexity
+///
+/// O(n log k) for `n` elements, `k` of which are numbered.
+pub fn numbers_of_part(
+    alloc: Global,
     elements: &ElementNumbers,
     list: &[u32],
-) -> Result<bool, NoMemory>
-    ensures pushed { IfOk result (λ all. all ≡ true → (more : List ℕ)
-        × (numbers.new.items ≡ numbers.old.items ++ more) × AreNumbersOf elements.now list.now more) }
-    ensures missed { IfOk result (λ all. all ≡ false → HasUnnumbered elements.now list.now) }
+) -> Result<Option<Vec<u32>>, NoMemory>
+    ensures { IfOk result (λ found. MatchOption found (HasUnnumbered elements.now list.now)
+        (λ numbers. AreNumbersOf elements.now list.now numbers.items)) }
 {
+    let mut numbers = Vec::with_capacity(alloc, list.len())?;
     for element in list {
-        let Some(number) = elements.number_of(*element) else {
-            return Ok(false);
+        let Some(found) = elements.number_of(*element) else {
+            return Ok(None);
         };
-        numbers.push(number)?;
+        numbers.push(found)?;
     }
-    Ok(true)
+    Ok(Some(numbers))
 }

@@ -6,7 +6,7 @@ ghost use Rattle.ra_list_replica.specs.View.{mark_at, IsPart, IsRead};
 ghost use Rattle.ra_list_replica.specs.Listing.{AreAsLast};
 
 use crate::element_numbers::ElementNumbers;
-use crate::finding::{Listed, numbers_of};
+use crate::finding::{Listed, numbers_of, numbers_of_part};
 use crate::listing::are_shown_once;
 use crate::mark::Mark;
 use ra_labels::NoMemory;
@@ -143,8 +143,8 @@ impl ReplicaView {
     ///
     /// # Complexity
     ///
-    /// O(n + m log k) for `n` listed elements, of which all but `m` are at the front or the back of the last read, and
-    /// `k` numbered ones.
+    /// O(n + l + m log k) for `n` listed elements, `l` of the last read and `k` numbered ones. `m` elements are looked up:
+    /// those inserted since the last read, and from the first one on that the last read has in another order, all.
     pub fn check_read(
         &mut self,
         alloc: Global,
@@ -157,13 +157,13 @@ impl ReplicaView {
         // The numbers are those of the listed elements.
         ensures numbers { IfOk result (λ found. MatchOption found (Unit {0})
             (λ listed. AreNumbersOf elements.now list.now listed.numbers.items)) }
-        // Before `start` and from `end` on they are those of the last read, from its front and from its back.
+        // Except at the given places, each follows the one before it in the last read too.
         ensures as_last { IfOk result (λ found. MatchOption found (Unit {0})
-            (λ listed. AreAsLast self.old.last listed.numbers.items listed.start listed.end)) }
+            (λ listed. AreAsLast self.old.last listed.numbers.items listed.places.items)) }
         // The view is unchanged.
         ensures same { self.new ≡ self.old }
     {
-        let Some(listed) = numbers_of(alloc, elements, &self.last, list)? else {
+        let Some(listed) = numbers_of(alloc, elements, &self.marks, &self.last, list)? else {
             return Ok(None);
         };
         elements.invariant();
@@ -182,7 +182,7 @@ impl ReplicaView {
     ///
     /// # Complexity
     ///
-    /// That of `check_read`.
+    /// O(n log k) for `n` listed elements and `k` numbered ones.
     pub fn check_part(
         &mut self,
         alloc: Global,
@@ -195,8 +195,8 @@ impl ReplicaView {
         ensures same { self.new ≡ self.old }
     {
         elements.invariant();
-        match numbers_of(alloc, elements, &self.last, list)? {
-            Some(listed) => Ok(are_shown_once(&mut self.marks, &listed.numbers)),
+        match numbers_of_part(alloc, elements, list)? {
+            Some(numbers) => Ok(are_shown_once(&mut self.marks, &numbers)),
             None => Ok(false),
         }
     }

@@ -139,26 +139,19 @@ fn many(
     Ok((numbers, list))
 }
 
-// Checks a read and keeps it; returns how many elements at its front and at its back are not looked up.
+// Checks a read and keeps it; returns the places at which it differs from the last one.
 fn read(
     rt: &impl Abort,
     alloc: Global,
     numbers: &ElementNumbers,
     view: &mut ReplicaView,
     list: &[u32],
-) -> Result<(usize, usize), NoMemory> {
-    let Some(
-        Listed {
-            numbers,
-            start,
-            end,
-        },
-    ) = view.check_read(alloc, numbers, list)?
-    else {
+) -> Result<Vec<usize>, NoMemory> {
+    let Some(Listed { numbers, places }) = view.check_read(alloc, numbers, list)? else {
         panic!(rt; "the list is a read")
     };
     view.keep(numbers);
-    Ok((start, list.len() - end))
+    Ok(places)
 }
 
 #[test]
@@ -169,17 +162,25 @@ fn looks_up_only_what_changed(rt: HostRuntime) -> Result<(), Fail> {
     for number in 0..1000u32 {
         insert(&rt, &mut view, number)?;
     }
-    assert_eq!(rt; read(&rt, alloc, &numbers, &mut view, &list)?, (0, 0));
-    assert_eq!(rt; read(&rt, alloc, &numbers, &mut view, &list)?, (1000, 0));
+    assert_eq!(rt; read(&rt, alloc, &numbers, &mut view, &list)?.len(), 999);
+    assert_eq!(rt; read(&rt, alloc, &numbers, &mut view, &list)?.len(), 0);
     add(&rt, &mut numbers, 5)?;
     insert(&rt, &mut view, 1000)?;
     assert!(rt; list.len() == 1000);
     list.insert(600, 5)?;
-    assert_eq!(rt; read(&rt, alloc, &numbers, &mut view, &list)?, (600, 400));
+    let places = read(&rt, alloc, &numbers, &mut view, &list)?;
+    assert_eq!(rt; places.as_slice(), [600, 601].as_slice());
     remove(&rt, &mut view, 300);
     assert!(rt; list.len() == 1001);
     list.remove(300);
-    assert_eq!(rt; read(&rt, alloc, &numbers, &mut view, &list)?, (300, 700));
+    remove(&rt, &mut view, 700);
+    remove(&rt, &mut view, 701);
+    assert!(rt; list.len() == 1000);
+    list.remove(700);
+    assert!(rt; list.len() == 999);
+    list.remove(700);
+    let places = read(&rt, alloc, &numbers, &mut view, &list)?;
+    assert_eq!(rt; places.as_slice(), [300, 700].as_slice());
     Ok(())
 }
 

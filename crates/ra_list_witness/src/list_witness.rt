@@ -12,7 +12,7 @@ ghost use Rattle.ra_list_witness.specs.ListWitness.{view_at, mark_of, AreSameMar
 ghost use Rattle.ra_list_witness.specs.Causes.{IsHadAs, CanInsert, IsCauseAt, IsCauseOfNeighbor, IsCauseOfInsertion, first_cause};
 
 use ra_labels::{Cause, Edge, Insertion, NoMemory};
-use ra_list_edges::{add_insertion, add_read};
+use ra_list_edges::{add_insertion, add_part, add_read};
 use ra_list_order::ListOrder;
 use ra_list_replica::{ElementNumbers, Listed, Mark, ReplicaView};
 use std::alloc::Global;
@@ -226,9 +226,9 @@ impl ListWitness {
         // The numbers are those of the listed elements.
         ensures numbers { IfOk result (λ found. MatchOption found (Unit {0})
             (λ listed. AreNumbersOf self.old.elements list.now listed.numbers.items)) }
-        // Before `start` and from `end` on they are those of the last read, from its front and from its back.
+        // Except at the given places, each follows the one before it in the last read too.
         ensures as_last { IfOk result (λ found. MatchOption found (Unit {0}) (λ listed.
-            AreAsLast (view_at self.old.views replica).last listed.numbers.items listed.start listed.end)) }
+            AreAsLast (view_at self.old.views replica).last listed.numbers.items listed.places.items)) }
         // Nothing is changed.
         ensures same { self.new ≡ self.old }
     {
@@ -265,7 +265,7 @@ impl ListWitness {
     ///
     /// # Complexity
     ///
-    /// That of `ra_list_edges::add_read` for the elements that are not those of the replica's last read.
+    /// That of `ra_list_edges::add_read` for the places at which the list differs from the replica's last read.
     pub fn read(
         &mut self,
         alloc: Global,
@@ -278,9 +278,8 @@ impl ListWitness {
         requires replica { replica < length self.old.views }
         // The numbers are those of the listed elements.
         requires numbers { AreNumbersOf self.old.elements list.now listed.numbers.items }
-        // Before `start` and from `end` on they are those of the last read, from its front and from its back.
-        requires as_last { AreAsLast (view_at self.old.views replica).last listed.numbers.items listed.start
-            listed.end }
+        // Except at the given places, each follows the one before it in the last read too.
+        requires as_last { AreAsLast (view_at self.old.views replica).last listed.numbers.items listed.places.items }
         // The elements are unchanged, even after a failure.
         ensures elements { self.new.elements ≡ self.old.elements }
         // The marks are unchanged, even after a failure.
@@ -299,13 +298,8 @@ impl ListWitness {
         // After a failed allocation the views are unchanged.
         ensures failed_views { OnErr result (self.new.views ≡ self.old.views) }
     {
-        let Listed {
-            numbers,
-            start,
-            end,
-        } = listed;
-        let (first, last) = changed(list.len(), start, end);
-        match add_read(alloc, &mut self.order, &list[first..last], label)? {
+        let Listed { numbers, places } = listed;
+        match add_read(alloc, &mut self.order, list, &places, label)? {
             None => {
                 self.views[replica as usize].keep(numbers);
                 Ok(None)
@@ -323,7 +317,7 @@ impl ListWitness {
     ///
     /// # Complexity
     ///
-    /// That of `ra_list_edges::add_read`.
+    /// That of `ra_list_edges::add_part`.
     pub fn read_part(
         &mut self,
         alloc: Global,
@@ -344,7 +338,7 @@ impl ListWitness {
         // After a failed allocation the edges are unchanged.
         ensures failed { OnErr result (self.new.edges ≡ self.old.edges) }
     {
-        add_read(alloc, &mut self.order, list, label)
+        add_part(alloc, &mut self.order, list, label)
     }
 
     /// Adds the delivery of an insertion: the replica shows the element.
@@ -475,23 +469,5 @@ fn first_cause(left: Option<Cause>, right: Option<Cause>) -> Option<Cause>
             Some(Cause::Update) => right,
             _ => left,
         },
-    }
-}
-
-// Returns the part of a list of this length whose pairs are not all those of the last read: what is from `start` up to
-// `end`, and one element on each side.
-fn changed(length: usize, start: usize, end: usize) -> (usize, usize)
-    requires ordered { start ≤ end }
-    requires within { end ≤ length }
-    ensures first { result.0 ≡ start - 1 }
-    ensures ordered { result.0 ≤ result.1 }
-    ensures within { result.1 ≤ length }
-    ensures reach { (i : ℕ) → i < end → i + 1 < length → i + 1 < result.1 }
-{
-    let first = start.saturating_sub(1);
-    if end < length {
-        (first, end + 1)
-    } else {
-        (first, length)
     }
 }

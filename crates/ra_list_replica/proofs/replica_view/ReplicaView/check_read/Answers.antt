@@ -18,7 +18,7 @@ returns-then-list-self-clause-exactly c =
     let marks = c.args.self.now.marks in
     let ns = c.in-Some.listed.numbers.items in
     let are = rw c.in-Some.is at c.in_ok-listed.ensures.numbers in
-    let these = c.deref-2.ensures.value in
+    let these = c.deref-3.ensures.value in
     let kept = ap (λ (v : View). v.marks) c.self.view_is in
     let marked : c.deref_mut.result.now ≡ marks = c.deref_mut.ensures.value ∙ kept in
     read_from_turns elements marks list ns c.invariant.ensures are
@@ -33,7 +33,7 @@ returns-else-are_shown_once-clause-exactly c = λ read.
     let marks = c.args.self.now.marks in
     let ns = c.in-Some.listed.numbers.items in
     let are = rw c.in-Some.is at c.in_ok-listed.ensures.numbers in
-    let these = c.deref-2.ensures.value in
+    let these = c.deref-3.ensures.value in
     let kept = ap (λ (v : View). v.marks) c.self.view_is in
     let marked : c.deref_mut.result.now ≡ marks = c.deref_mut.ensures.value ∙ kept in
     elim c.else-are_shown_once.branch [
