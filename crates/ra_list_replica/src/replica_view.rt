@@ -143,8 +143,8 @@ impl ReplicaView {
     ///
     /// # Complexity
     ///
-    /// O(n + l + m log k) for `n` listed elements, `l` of the last read and `k` numbered ones. `m` elements are looked up:
-    /// those inserted since the last read, and from the first one on that the last read has in another order, all.
+    /// O(n + l + m log k) for `n` listed elements, `l` of the last read and `k` numbered ones. `m` elements are looked
+    /// up: those inserted since the last read, and from the first one on that the last read has in another order, all.
     pub fn check_read(
         &mut self,
         alloc: Global,
