@@ -39,8 +39,8 @@ pub fn add_pairs(
     Ok(None)
 }
 
-/// Does the same for a list whose other elements have an edge from the one before them: only the edges to the elements
-/// at these indexes are looked up.
+/// Adds the same edges to an order that has all of them, except perhaps those to the elements at these indexes: only
+/// they are looked up. Returns `None`, or a cycle, as `add_pairs` does.
 ///
 /// # Errors
 ///

@@ -14,14 +14,14 @@ use std::alloc::Global;
 pub struct Listed {
     /// The numbers, in the order of the list.
     pub numbers: Vec<u32>,
-    /// The indexes of the elements, except the first one, that do not follow the one before them in the last read too.
+    /// The indexes, except 0, of the elements that did not directly follow the same element in the last read.
     pub places: Vec<usize>,
 }
 
 /// Returns the numbers of the elements of a list, or `None` if one of them has no number.
 ///
-/// The list is compared with the last read: what was removed since is passed over there, and what was inserted since is
-/// looked up. So most elements are not looked up.
+/// The list is compared with the last read, element by element: an element that was removed since is skipped there, and
+/// one that was inserted since is looked up, as no others are.
 ///
 /// # Errors
 ///
@@ -30,7 +30,7 @@ pub struct Listed {
 /// # Complexity
 ///
 /// O(n + l + m log k) for `n` elements, `l` of the last read and `k` numbered ones. `m` elements are looked up: those
-/// inserted since the last read, and from the first one on that the last read has in another order, all.
+/// inserted since the last read and, where the list contradicts the order of the last read, all behind that place.
 pub fn numbers_of(
     alloc: Global,
     elements: &ElementNumbers,
@@ -45,7 +45,8 @@ pub fn numbers_of(
 {
     let mut numbers = Vec::with_capacity(alloc, list.len())?;
     let mut places = Vec::new(alloc);
-    // The last read up to this index is compared, and `follows` says whether the element before is the last of these.
+    // The last read is compared up to this index. `follows` says whether the previous element was found directly before
+    // it there.
     let mut next = 0;
     let mut follows = false;
     for element in list {

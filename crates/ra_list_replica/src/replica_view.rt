@@ -144,7 +144,8 @@ impl ReplicaView {
     /// # Complexity
     ///
     /// O(n + l + m log k) for `n` listed elements, `l` of the last read and `k` numbered ones. `m` elements are looked
-    /// up: those inserted since the last read, and from the first one on that the last read has in another order, all.
+    /// up: those inserted since the last read and, where the list contradicts the order of the last read, all behind
+    /// that place.
     pub fn check_read(
         &mut self,
         alloc: Global,
@@ -157,7 +158,7 @@ impl ReplicaView {
         // The numbers are those of the listed elements.
         ensures numbers { IfOk result (λ found. MatchOption found (Unit {0})
             (λ listed. AreNumbersOf elements.now list.now listed.numbers.items)) }
-        // Except at the given places, each follows the one before it in the last read too.
+        // Except at the given indexes, each directly follows the one before it in the last read too.
         ensures as_last { IfOk result (λ found. MatchOption found (Unit {0})
             (λ listed. AreAsLast self.old.last listed.numbers.items listed.places.items)) }
         // The view is unchanged.

@@ -226,7 +226,7 @@ impl ListWitness {
         // The numbers are those of the listed elements.
         ensures numbers { IfOk result (λ found. MatchOption found (Unit {0})
             (λ listed. AreNumbersOf self.old.elements list.now listed.numbers.items)) }
-        // Except at the given places, each follows the one before it in the last read too.
+        // Except at the given indexes, each directly follows the one before it in the last read too.
         ensures as_last { IfOk result (λ found. MatchOption found (Unit {0}) (λ listed.
             AreAsLast (view_at self.old.views replica).last listed.numbers.items listed.places.items)) }
         // Nothing is changed.
@@ -278,7 +278,7 @@ impl ListWitness {
         requires replica { replica < length self.old.views }
         // The numbers are those of the listed elements.
         requires numbers { AreNumbersOf self.old.elements list.now listed.numbers.items }
-        // Except at the given places, each follows the one before it in the last read too.
+        // Except at the given indexes, each directly follows the one before it in the last read too.
         requires as_last { AreAsLast (view_at self.old.views replica).last listed.numbers.items listed.places.items }
         // The elements are unchanged, even after a failure.
         ensures elements { self.new.elements ≡ self.old.elements }
