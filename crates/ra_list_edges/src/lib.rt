@@ -11,5 +11,5 @@ mod read;
 #[cfg(test)]
 mod tests;
 
-pub use placing::add_insertion;
+pub use placing::{Placement, add_insertion};
 pub use read::{add_part, add_read};

@@ -4,7 +4,6 @@ use Rattle.std.specs.List.{slice_get}
 use Rattle.ra_labels.specs.declared.edge.Edge.{Edge}
 use Rattle.ra_labels.specs.Edges.{HasEdge}
 use Rattle.ra_list_replica.specs.Numbers.{AreNumbersOf, HasOneNumberEach}
-use Rattle.ra_list_replica.specs.View.{IsPart}
 use Rattle.ra_list_replica.specs.Listing.{AreAsLast}
 use Rattle.ra_list_witness.specs.ListWitness.{ListWitness, view_at}
 use Rattle.ra_list_witness.specs.Causes.{IsHadAs, CanInsert}
@@ -17,7 +16,7 @@ use Rattle.ra_list_effects.specs.declared.list_effects.Change.{Change}
 use Rattle.ra_list_effects.specs.declared.list_effects.Change.TheVariants.{Show, Hide}
 use Rattle.ra_list_effects.specs.declared.list_effects.Found.{Found}
 use Rattle.ra_list_effects.specs.declared.list_effects.Found.TheVariants as found
-use Rattle.ra_list_effects.specs.Past.{Past, state_at, cause_at}
+use Rattle.ra_list_effects.specs.Past.{Past, state_at}
 use Rattle.ra_list_effects.specs.Views.{IsViewOf}
 
 pub record Effects : Type 0 where
@@ -58,8 +57,7 @@ IsFoundFor effects replica (op.Remove x) (found.Element number) =
 IsFoundFor effects replica (op.Read list) (found.Read listed) =
     AreNumbersOf effects.witness.elements list listed.numbers.items
     × AreAsLast (view_at effects.witness.views replica).last listed.numbers.items listed.places.items
-IsFoundFor effects replica (op.Part list) found.Part =
-    IsPart effects.witness.elements (view_at effects.witness.views replica).marks list
+IsFoundFor effects replica (op.Part list) (found.Part part) = AreNumbersOf effects.witness.elements list part.items
 IsFoundFor effects replica operation other = ⊥
 
 -- holds if the update can be delivered after some past that the effects represent: the replica's state admits it

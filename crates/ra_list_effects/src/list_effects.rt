@@ -1,12 +1,13 @@
 //! The effects of the operations of one list.
-ghost use Rattle.std.specs.Prelude.{◌≡◌, ℕ, ◌<◌, ◌++◌, length, get_or, None, Some, is_some, Contains, IfOk, IfSome, OnOk, OnErr, MatchOption};
+ghost use Rattle.std.specs.Prelude.{◌≡◌, ℕ, ◌<◌, ◌++◌, List, length, get_or, None, Some, is_some, IfOk, IfSome, OnOk, OnErr, MatchOption};
 ghost use Rattle.std.specs.List.{slice_get};
 ghost use Rattle.std.specs.Result.{result_err};
 ghost use Rattle.ra_list_replica.specs.declared.mark.Mark.TheVariants as marks;
-ghost use Rattle.ra_list_replica.specs.View.{IsPart};
-ghost use Rattle.ra_list_witness.specs.ListWitness.{view_at, mark_of};
+ghost use Rattle.ra_list_replica.specs.Numbers.{AreNumbersOf};
+ghost use Rattle.ra_list_witness.specs.ListWitness.{mark_of};
+ghost use Rattle.ra_list_witness.specs.Named.{IsOrderOf};
 ghost use Rattle.ra_list_witness.specs.Causes.{CanInsert};
-ghost use Rattle.ra_labels.specs.Edges.{EachOnce, Extends, IsCycle};
+ghost use Rattle.ra_labels.specs.Edges.{Extends, IsCycle};
 ghost use Rattle.ra_labels.specs.declared.list_operation.ListOp.TheVariants as op;
 ghost use Rattle.ra_labels.specs.declared.list_operation.ListUpdate.{ListUpdate};
 ghost use Rattle.ra_labels.specs.ListOperations.{edges_of};
@@ -16,7 +17,6 @@ ghost use Rattle.ra_list_effects.specs.Past.{Past, empty_past, state_at, cause_a
 ghost use Rattle.ra_list_effects.specs.Effects.{AreEffectsOf, IsFoundFor, MayDeliver};
 
 use ra_labels::{Cause, Edge, Insertion, ListOp, NoMemory};
-use ra_list_order::ListOrder;
 use ra_list_replica::Listed;
 use ra_list_witness::ListWitness;
 use std::alloc::Global;
@@ -40,8 +40,8 @@ pub enum Found {
     Element(u32),
     /// The numbers of the elements that were read.
     Read(Listed),
-    /// Nothing else, for a part of the list.
-    Part,
+    /// The numbers of the elements of a part of the list.
+    Part(Vec<u32>),
 }
 
 /// The state after all updates, the state of each replica, and the edges of the operations, in the form in which one
@@ -162,13 +162,14 @@ impl ListEffects {
                 }
                 _ => unreachable!(),
             },
-            ListOp::Read(list) => match found {
-                Found::Read(listed) => {
-                    self.add_read(alloc, replica, list.as_slice(), listed, label)
-                }
+            ListOp::Read(_) => match found {
+                Found::Read(listed) => self.add_read(alloc, replica, listed, label),
                 _ => unreachable!(),
             },
-            ListOp::Part(list) => self.add_part(alloc, list.as_slice(), label),
+            ListOp::Part(_) => match found {
+                Found::Part(part) => self.add_part(alloc, &part, label),
+                _ => unreachable!(),
+            },
         }
     }
 
@@ -260,19 +261,33 @@ impl ListEffects {
         *self.changes.allocator()
     }
 
-    /// Returns the kept order.
-    pub fn order(&self) -> &ListOrder
-        // The order has each element once.
-        ensures once { EachOnce result.now.order }
-        // The order extends the edges of all operations.
-        ensures extends { (past : Past) → AreEffectsOf self.now past → Extends result.now.order past.edges }
-        // The order has all elements.
-        ensures all { (past : Past) (x : ℕ) → AreEffectsOf self.now past → Contains past.whole.inserted x
-            → Contains result.now.order x }
+    /// Does nothing. Its clause states for the proofs of callers what holds of all `ListEffects`.
+    pub fn invariant(&self)
+        // Some order has exactly the elements, each once, and extends the edges of all operations.
+        ensures { (past : Past) → AreEffectsOf self.now past → (order : List ℕ) × IsOrderOf order past.whole.inserted
+            × Extends order past.edges }
     {
-        let order = self.witness.order();
-        order.invariant();
-        order
+        self.witness.invariant();
+    }
+
+    /// Returns the elements in the kept order, removed ones too.
+    ///
+    /// # Errors
+    ///
+    /// `NoMemory` if allocation fails.
+    ///
+    /// # Complexity
+    ///
+    /// O(n) with `n` elements.
+    pub fn list_order(&self, alloc: Global) -> Result<Vec<u32>, NoMemory>
+        // The result has exactly the elements that were inserted, each once.
+        ensures whole { (past : Past) → AreEffectsOf self.now past
+            → IfOk result (λ order. IsOrderOf order.items past.whole.inserted) }
+        // The result extends the edges of all operations.
+        ensures extends { (past : Past) → AreEffectsOf self.now past
+            → IfOk result (λ order. Extends order.items past.edges) }
+    {
+        self.witness.list_order(alloc)
     }
 
     // Adds an insertion.
@@ -330,21 +345,20 @@ impl ListEffects {
         &mut self,
         alloc: Global,
         replica: u8,
-        list: &[u32],
         listed: Listed,
         label: u32,
     ) -> Result<Option<Vec<Edge>>, NoMemory>
-        requires found { IsFoundFor self.old replica (op.Read list.now) (found.Read listed) }
+        requires found { (list : List ℕ) × IsFoundFor self.old replica (op.Read list) (found.Read listed) }
         requires replica { replica < length self.old.witness.views }
-        ensures added { (past : Past) → AreEffectsOf self.old past → IfOk result (λ found. MatchOption found
-            (AreEffectsOf self.new (with_operation past replica (op.Read list.now) label))
-            (λ cycle. AreEffectsOf self.new past × IsCycle (past.edges ++ edges_of label (op.Read list.now))
-            cycle.items)) }
+        ensures added { (past : Past) (list : List ℕ) → AreEffectsOf self.old past
+            → IsFoundFor self.old replica (op.Read list) (found.Read listed) → IfOk result (λ found. MatchOption found
+            (AreEffectsOf self.new (with_operation past replica (op.Read list) label))
+            (λ cycle. AreEffectsOf self.new past × IsCycle (past.edges ++ edges_of label (op.Read list)) cycle.items)) }
         ensures failed { (past : Past) → AreEffectsOf self.old past → OnErr result (AreEffectsOf self.new past) }
     {
         let count = self.changes.len();
         self.changes.push(None)?;
-        match self.witness.read(alloc, replica, list, listed, label) {
+        match self.witness.read(alloc, replica, listed, label) {
             Ok(None) => Ok(None),
             Ok(Some(cycle)) => {
                 self.changes.truncate(count);
@@ -361,21 +375,19 @@ impl ListEffects {
     fn add_part(
         &mut self,
         alloc: Global,
-        list: &[u32],
+        part: &[u32],
         label: u32,
     ) -> Result<Option<Vec<Edge>>, NoMemory>
-        requires { (replica : ℕ)
-            × IsPart self.old.witness.elements (view_at self.old.witness.views replica).marks list.now }
-        ensures added { (past : Past) (replica : ℕ) → AreEffectsOf self.old past
-            → IfOk result (λ found. MatchOption found
-            (AreEffectsOf self.new (with_operation past replica (op.Part list.now) label))
-            (λ cycle. AreEffectsOf self.new past × IsCycle (past.edges ++ edges_of label (op.Part list.now))
-            cycle.items)) }
+        requires { (list : List ℕ) × AreNumbersOf self.old.witness.elements list part.now }
+        ensures added { (past : Past) (replica : ℕ) (list : List ℕ) → AreEffectsOf self.old past
+            → AreNumbersOf self.old.witness.elements list part.now → IfOk result (λ found. MatchOption found
+            (AreEffectsOf self.new (with_operation past replica (op.Part list) label))
+            (λ cycle. AreEffectsOf self.new past × IsCycle (past.edges ++ edges_of label (op.Part list)) cycle.items)) }
         ensures failed { (past : Past) → AreEffectsOf self.old past → OnErr result (AreEffectsOf self.new past) }
     {
         let count = self.changes.len();
         self.changes.push(None)?;
-        match self.witness.read_part(alloc, list, label) {
+        match self.witness.read_part(alloc, part, label) {
             Ok(None) => Ok(None),
             Ok(Some(cycle)) => {
                 self.changes.truncate(count);
@@ -442,10 +454,9 @@ impl ListEffects {
         ensures found { IfOk result (λ tested. IfOk tested (IsFoundFor self.old replica (op.Part list.now))) }
         ensures same { self.new ≡ self.old }
     {
-        if self.witness.check_part(alloc, replica, list)? {
-            Ok(Ok(Found::Part))
-        } else {
-            Ok(Err(Cause::Query))
-        }
+        let Some(part) = self.witness.check_part(alloc, replica, list)? else {
+            return Ok(Err(Cause::Query));
+        };
+        Ok(Ok(Found::Part(part)))
     }
 }

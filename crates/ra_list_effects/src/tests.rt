@@ -178,9 +178,9 @@ fn a_replica_that_joined_is_judged(rt: HostRuntime) -> Result<(), Fail> {
         &ListOp::Remove(3),
         Some(Cause::Query),
     )?;
-    let order = match effects.order().elements(alloc) {
+    let order = match effects.list_order(alloc) {
         Ok(order) => order,
-        Err(_) => effects.order().elements(alloc)?,
+        Err(_) => effects.list_order(alloc)?,
     };
     assert_eq!(rt; order.as_slice(), [1, 3, 2].as_slice());
     Ok(())

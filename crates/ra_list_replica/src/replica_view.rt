@@ -1,5 +1,5 @@
 //! One replica's view of a list.
-ghost use Rattle.std.specs.Prelude.{◌≡◌, ℕ, ◌<◌, ◌≤◌, [], true, length, set, IsTrue, ◌↔◌, IfOk, OnOk, OnErr, MatchOption};
+ghost use Rattle.std.specs.Prelude.{◌≡◌, ℕ, ◌<◌, ◌≤◌, [], true, length, set, IfOk, OnOk, OnErr, MatchOption};
 ghost use Rattle.ra_list_replica.specs.declared.mark.Mark.TheVariants as marks;
 ghost use Rattle.ra_list_replica.specs.Numbers.{AreNumbersOf};
 ghost use Rattle.ra_list_replica.specs.View.{mark_at, IsPart, IsRead};
@@ -175,7 +175,8 @@ impl ReplicaView {
         }
     }
 
-    /// Returns `true` if each element of the list is shown and none is listed twice.
+    /// Returns the numbers of a list's elements if each of them is shown and none is listed twice; otherwise returns
+    /// `None`.
     ///
     /// # Errors
     ///
@@ -187,18 +188,26 @@ impl ReplicaView {
     pub fn check_part(
         &mut self,
         alloc: Global,
-        elements: &ElementNumbers,
+        numbers: &ElementNumbers,
         list: &[u32],
-    ) -> Result<bool, NoMemory>
-        // The result is `true` exactly if the list has shown elements alone, each at most once.
-        ensures exactly { IfOk result (λ is. IsTrue is ↔ IsPart elements.now self.old.marks list.now) }
+    ) -> Result<Option<Vec<u32>>, NoMemory>
+        // The result is `None` exactly if the list does not have shown elements alone, each at most once.
+        ensures exactly { IfOk result (λ found. MatchOption found
+            (¬ IsPart numbers.now self.old.marks list.now) (λ part. IsPart numbers.now self.old.marks list.now)) }
+        // The numbers are those of the listed elements.
+        ensures numbers { IfOk result (λ found. MatchOption found (Unit {0})
+            (λ part. AreNumbersOf numbers.now list.now part.items)) }
         // The view is unchanged.
         ensures same { self.new ≡ self.old }
     {
-        elements.invariant();
-        match numbers_of_part(alloc, elements, list)? {
-            Some(numbers) => Ok(are_shown_once(&mut self.marks, &numbers)),
-            None => Ok(false),
+        let Some(part) = numbers_of_part(alloc, numbers, list)? else {
+            return Ok(None);
+        };
+        numbers.invariant();
+        if are_shown_once(&mut self.marks, &part) {
+            Ok(Some(part))
+        } else {
+            Ok(None)
         }
     }
 

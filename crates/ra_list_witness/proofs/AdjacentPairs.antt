@@ -1,5 +1,5 @@
 -- The pairs of adjacent elements of a list.
-use Rattle.std.proofs.Common.{◌≡◌, ℕ, suc, List, get_or, refl, sym, subst}
+use Rattle.std.proofs.Common.{ℕ, suc, List, get_or, refl, sym, subst}
 use Rattle.std.specs.Prelude.{Contains}
 use Rattle.ra_labels.specs.declared.edge.Edge.{Edge}
 use Rattle.ra_labels.specs.Edges.{HasEdge}

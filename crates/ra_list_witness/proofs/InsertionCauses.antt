@@ -1,12 +1,12 @@
 -- The reason for which an insertion fails, from those of its neighbours.
 use Rattle.std.proofs.Common.{◌≡◌, ℕ, List, Option, Some, None, inl, inr}
-use Rattle.std.specs.Prelude.{Contains, ◌⊎◌}
+use Rattle.std.specs.Prelude.{Contains}
 use Rattle.ra_labels.specs.declared.reply.Cause.{Cause}
 use Rattle.ra_labels.specs.declared.reply.Cause.TheVariants.{Order, Update, Query}
 use Rattle.ra_labels.specs.declared.insertion.Insertion.{Insertion}
 use Rattle.ra_labels.specs.Neighborhood.{IsKnown}
 use Rattle.ra_list_replica.specs.declared.mark.Mark.{Mark}
-use Rattle.ra_list_witness.specs.Causes.{HasNeighbor, HasNeighbors, CanInsert, IsCauseOfNeighbor, IsCauseOfInsertion, first_cause}
+use Rattle.ra_list_witness.specs.Causes.{HasNeighbor, IsCauseOfNeighbor, IsCauseOfInsertion, first_cause}
 use Rattle.ra_list_witness.proofs.Views.{element_there}
 
 module _ (elements : List ℕ) (marks : List Mark) where

@@ -2,4 +2,8 @@ pub mod AdjacentPairs
 pub mod InsertionCauses
 pub mod Kept
 pub mod LastReads
+pub mod NamedAnswers
+pub mod NamedEdges
+pub mod NamedOrders
+pub mod Placements
 pub mod Views

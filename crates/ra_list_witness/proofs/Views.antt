@@ -1,17 +1,17 @@
 -- The views of the replicas after one of them is changed, and what is kept of each replica's last read.
-use Rattle.std.proofs.Common.{◌≡◌, ℕ, ◌<◌, ◌≤◌, List, [], ◌∷◌, ◌++◌, length, get_or, set, map, replicate, Some, refl, sym, ap, ◌∙◌, subst, inl, inr, arith}
-use Rattle.std.specs.Prelude.{Contains, ◌==◌}
+use Rattle.std.proofs.Common.{◌≡◌, ℕ, ◌<◌, List, [], ◌∷◌, ◌++◌, length, set, replicate, Some, refl, sym, ap, ◌∙◌, subst, inl, inr, arith}
+use Rattle.std.specs.Prelude.{Contains}
 use Rattle.std.specs.List.{slice_get}
 use Rattle.std.proofs.lemmas.Bool.{cases_eq, cases_lt, cases_order}
-use Rattle.std.proofs.lemmas.Option.{slice_get_within, slice_get-get_or, get_or_from_slice_get}
-use Rattle.std.proofs.lemmas.List.{length-set, length-append, length_push, length-replicate, get_or-replicate, get_or_past, get_or_push, get_or_append_left, get_or-set_same, get_or-set_other}
+use Rattle.std.proofs.lemmas.Option.{slice_get_within, get_or_from_slice_get}
+use Rattle.std.proofs.lemmas.List.{length-set, length_push, length-replicate, get_or-replicate, get_or_past, get_or_push, get_or_append_left, get_or-set_same, get_or-set_other}
 use Rattle.std.proofs.lemmas.List.Elements.{Contains-get_or}
 use Rattle.ra_labels.specs.declared.edge.Edge.{Edge}
+use Rattle.ra_labels.proofs.Members.{none_there}
 use Rattle.ra_list_replica.specs.declared.mark.Mark.TheVariants.{Missing}
-use Rattle.ra_list_replica.specs.Numbers.{AreNumbersOf}
 use Rattle.ra_list_replica.specs.View.{View, mark_at}
 use Rattle.ra_list_witness.specs.Adjacent.{HasPairs}
-use Rattle.ra_list_witness.specs.ListWitness.{no_view, view_at, mark_of, AreSameMarks, IsLastRead, ListWitnessKept}
+use Rattle.ra_list_witness.specs.ListWitness.{no_view, view_at, mark_of, AreSameMarks, ListWitnessKept}
 
 pub element_there : (xs : List ℕ) (n x : ℕ) → slice_get xs n ≡ Some x → Contains xs x
 element_there xs n x is =
@@ -33,46 +33,9 @@ same_marks_set views at view there same = record {
       (λ is. same n ∙ ap (λ r. mark_of views r n) (sym is)) refl;
 }
 
--- more elements
-numbers_wider : (elements more list numbers : List ℕ) → AreNumbersOf elements list numbers
-    → AreNumbersOf (elements ++ more) list numbers
-numbers_wider elements more [] [] are = refl
-numbers_wider elements more [] (n ∷ ns) are = absurd (cc are)
-numbers_wider elements more (x ∷ list) [] are = absurd (cc are)
-numbers_wider elements more (x ∷ list) (n ∷ ns) are =
-    ap (λ o. o ∷ map (slice_get (elements ++ more)) ns) (wider (cc are))
-    ∙ ap (λ os. Some x ∷ os) (numbers_wider elements more list ns (cc are))
-  where
-    wider : slice_get elements n ≡ Some x → slice_get (elements ++ more) n ≡ Some x
-    wider is =
-        let within = slice_get_within elements n x is in
-        slice_get-get_or (elements ++ more) n 0 (omega (arith, within, length-append elements more))
-        ∙ ap Some (get_or_append_left elements more 0 n within ∙ get_or_from_slice_get elements n x 0 is)
-
-pub last_wider : (elements more : List ℕ) (old new : List Edge) (last : List ℕ)
-    → ((xs : List ℕ) → HasPairs old xs → HasPairs new xs) → IsLastRead elements old last
-    → IsLastRead (elements ++ more) new last
-last_wider elements more old new last kept read = record {
-  list = read.list;
-  numbers = numbers_wider elements more read.list last read.numbers;
-  pairs = kept read.list read.pairs;
-}
-
-pub last_with : (elements : List ℕ) (old new : List Edge) (last : List ℕ)
-    → ((xs : List ℕ) → HasPairs old xs → HasPairs new xs) → IsLastRead elements old last → IsLastRead elements new last
-last_with elements old new last kept read = record {
-  list = read.list;
-  numbers = read.numbers;
-  pairs = kept read.list read.pairs;
-}
-
--- no element and no read
-pub nothing_read : (elements : List ℕ) (edges : List Edge) → IsLastRead elements edges []
-nothing_read elements edges = record {
-  list = [];
-  numbers = refl;
-  pairs = λ label edge there. absurd (omega (arith, there.1));
-}
+-- no read
+pub nothing_read : (edges : List Edge) → HasPairs edges []
+nothing_read edges = λ label edge there. absurd (none_there edge there)
 
 -- the views of replicas that have no elements
 pub same_view : (one other : View) → one.marks ≡ other.marks → one.last ≡ other.last → one ≡ other
@@ -84,12 +47,13 @@ first_view n replica = elim (cases_lt replica n) [
   | inr past ↦ get_or_past (replicate n no_view) replica no_view (omega (arith, past, length-replicate n no_view))
 ]
 
-pub kept_first : (elements : List ℕ) (n : ℕ) (order : List ℕ) (edges : List Edge) → elements ≡ []
+pub kept_first : (elements : List ℕ) (n : ℕ) (order : List ℕ) (edges : List Edge) → elements ≡ [] → edges ≡ []
     → ListWitnessKept elements (replicate n no_view) order edges
-kept_first elements n order edges none = record {
-  ordered = λ x there. absurd (omega (arith, there.1, ap length none));
+kept_first elements n order edges none nothing = record {
+  ordered = λ x there. absurd (omega (arith, there, ap length none));
+  between = λ edge there. absurd (none_there edge (subst (λ es. Contains es edge) nothing there));
   beyond = λ replica number past. ap (λ v. mark_at v.marks number) (first_view n replica);
-  lasts = λ replica. subst (λ v. IsLastRead elements edges v.last) (sym (first_view n replica)) (nothing_read elements edges);
+  lasts = λ replica. subst (λ v. HasPairs edges v.last) (sym (first_view n replica)) (nothing_read edges);
 }
 
 -- the view of a replica that joins
@@ -108,8 +72,9 @@ pub kept_by_join : (elements : List ℕ) (views views' : List View) (order : Lis
 kept_by_join elements views views' order edges from kept is =
     subst (λ vs. ListWitnessKept elements vs order edges) (sym is) (record {
       ordered = kept.ordered;
+      between = kept.between;
       beyond = λ replica n past. view_push (λ v. mark_at v.marks n ≡ Missing) views (view_at views from) replica
           (kept.beyond from n past) refl (λ r. kept.beyond r n past);
-      lasts = λ replica. view_push (λ v. IsLastRead elements edges v.last) views (view_at views from) replica
-          (kept.lasts from) (nothing_read elements edges) kept.lasts;
+      lasts = λ replica. view_push (λ v. HasPairs edges v.last) views (view_at views from) replica
+          (kept.lasts from) (nothing_read edges) kept.lasts;
     })

@@ -1,3 +1,4 @@
 pub mod Adjacent
 pub mod Causes
 pub mod ListWitness
+pub mod Named

@@ -1,20 +1,17 @@
 -- A list's witness, as contracts describe it.
-use Rattle.std.specs.Prelude.{◌≡◌, ℕ, ◌≤◌, ◌==◌, ◌&&◌, List, [], length, get_or, Some, Contains, if◌then◌else◌}
-use Rattle.std.specs.List.{slice_get}
+use Rattle.std.specs.Prelude.{◌≡◌, ℕ, ◌<◌, ◌≤◌, ◌==◌, ◌&&◌, List, [], length, get_or, Contains, if◌then◌else◌}
 use Rattle.ra_labels.specs.declared.edge.Edge.{Edge}
 use Rattle.ra_list_replica.specs.declared.mark.Mark.{Mark}
 use Rattle.ra_list_replica.specs.declared.mark.Mark.TheVariants.{Missing}
-use Rattle.ra_list_replica.specs.Numbers.{AreNumbersOf}
 use Rattle.ra_list_replica.specs.View.{View, mark_at}
 use Rattle.ra_list_witness.specs.Adjacent.{HasPairs}
+use Rattle.ra_list_witness.specs.Named.{AreBetweenNumbers}
 
 pub record ListWitness : Type 0 where
   -- the elements by number, in the order of their insertion
   pub elements : List ℕ
   -- the view of each replica
   pub views : List View
-  -- the kept order: all elements, and perhaps some whose insertion was rejected
-  pub order : List ℕ
   -- the edges of the operations
   pub edges : List Edge
 
@@ -40,14 +37,11 @@ pub record IsMarked (old : List View) (at number : ℕ) (mark : Mark) (new : Lis
   pub each : (replica other : ℕ) → mark_of new replica other
       ≡ (if replica == at && other == number then mark else mark_of old replica other)
 
--- holds if the edges have the adjacent pairs of a replica's last read
-pub record IsLastRead (elements : List ℕ) (edges : List Edge) (last : List ℕ) : Type 0 where
-  pub list : List ℕ
-  pub numbers : AreNumbersOf elements list last
-  pub pairs : HasPairs edges list
-
--- the representation invariant
+-- the representation invariant, of an order and edges in which elements go by their numbers: the order has all numbers,
+-- and perhaps one of an element whose insertion was rejected
 pub record ListWitnessKept (elements : List ℕ) (views : List View) (order : List ℕ) (edges : List Edge) : Type 0 where
-  pub ordered : (x : ℕ) → Contains elements x → Contains order x
+  pub ordered : (number : ℕ) → number < length elements → Contains order number
+  pub between : AreBetweenNumbers elements edges
   pub beyond : (replica number : ℕ) → length elements ≤ number → mark_of views replica number ≡ Missing
-  pub lasts : (replica : ℕ) → IsLastRead elements edges (view_at views replica).last
+  -- the adjacent numbers of each replica's last read have edges
+  pub lasts : (replica : ℕ) → HasPairs edges (view_at views replica).last

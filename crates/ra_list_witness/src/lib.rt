@@ -6,7 +6,9 @@
 //! extends those of a cycle. Deliveries and joins change the view of one replica.
 #![tactic(auto)]
 
+mod causes;
 mod list_witness;
+mod named;
 #[cfg(test)]
 mod tests;
 #[cfg(test)]

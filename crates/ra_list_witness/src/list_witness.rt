@@ -1,7 +1,7 @@
 //! The witness of one list.
-ghost use Rattle.std.specs.Prelude.{◌≡◌, ℕ, ◌+◌, ◌-◌, ◌<◌, ◌≤◌, ◌++◌, ◌∷◌, [], length, Contains, IsTrue, ◌↔◌, IfOk, OnOk, OnErr, MatchOption, MatchResult};
+ghost use Rattle.std.specs.Prelude.{◌≡◌, ℕ, ◌+◌, ◌-◌, ◌<◌, ◌≤◌, ◌++◌, ◌∷◌, List, [], length, IfOk, OnOk, OnErr, MatchOption, MatchResult};
 ghost use Rattle.std.specs.List.{slice_get};
-ghost use Rattle.ra_labels.specs.Edges.{IsCycle};
+ghost use Rattle.ra_labels.specs.Edges.{Extends, IsCycle};
 ghost use Rattle.ra_labels.specs.Neighborhood.{neighborhood};
 ghost use Rattle.ra_list_edges.specs.Pairs.{AddsPairs, with_pairs};
 ghost use Rattle.ra_list_replica.specs.declared.mark.Mark.TheVariants as marks;
@@ -9,8 +9,11 @@ ghost use Rattle.ra_list_replica.specs.Numbers.{AreNumbersOf};
 ghost use Rattle.ra_list_replica.specs.View.{IsPart, IsRead};
 ghost use Rattle.ra_list_replica.specs.Listing.{AreAsLast};
 ghost use Rattle.ra_list_witness.specs.ListWitness.{view_at, mark_of, AreSameMarks, IsMarked};
-ghost use Rattle.ra_list_witness.specs.Causes.{IsHadAs, CanInsert, IsCauseAt, IsCauseOfNeighbor, IsCauseOfInsertion, first_cause};
+ghost use Rattle.ra_list_witness.specs.Named.{IsOrderOf};
+ghost use Rattle.ra_list_witness.specs.Causes.{IsHadAs, CanInsert, IsCauseAt, IsCauseOfNeighbor, IsCauseOfInsertion};
 
+use crate::causes::first_cause;
+use crate::named::{elements_of, name_edges, placement_of};
 use ra_labels::{Cause, Edge, Insertion, NoMemory};
 use ra_list_edges::{add_insertion, add_part, add_read};
 use ra_list_order::ListOrder;
@@ -25,20 +28,20 @@ pub struct ListWitness {
     numbers: ElementNumbers,
     /// The view of each replica.
     views: Vec<ReplicaView>,
-    /// The kept order and its edges.
+    /// The kept order and its edges, in which elements go by their numbers.
     order: ListOrder,
 }
 
 impl Model for ListWitness {
     ghost use Rattle.ra_list_witness.specs.ListWitness.{ListWitness, ListWitnessKept};
+    ghost use Rattle.ra_list_witness.specs.Named.{all_named};
 
     ghost Value = { ListWitness };
 
     ghost view = { λ a. record {
       elements = a.numbers;
       views = a.views.items;
-      order = a.order.order;
-      edges = a.order.edges;
+      edges = all_named a.numbers a.order.edges;
     } };
 
     ghost invariant = { λ a. ListWitnessKept a.numbers a.views.items a.order.order a.order.edges };
@@ -59,8 +62,6 @@ impl ListWitness {
         ensures elements { IfOk result (λ witness. witness.elements ≡ []) }
         // There are no edges.
         ensures edges { IfOk result (λ witness. witness.edges ≡ []) }
-        // The kept order is empty.
-        ensures order { IfOk result (λ witness. witness.order ≡ []) }
         // Each replica has a view.
         ensures views { IfOk result (λ witness. length witness.views ≡ replicas) }
         // No replica has an element.
@@ -183,14 +184,16 @@ impl ListWitness {
         ensures lasts { (other : ℕ) → (view_at self.new.views other).last ≡ (view_at self.old.views other).last }
     {
         let number = self.numbers.len() as u32;
+        let placement = placement_of(&self.numbers, insertion);
         self.views[replica as usize].reserve(number)?;
         self.numbers.add(insertion.element)?;
-        match add_insertion(alloc, &mut self.order, insertion, label) {
+        match add_insertion(alloc, &mut self.order, placement, label) {
             Ok(None) => {
                 self.views[replica as usize].insert(number);
                 Ok(None)
             }
-            Ok(Some(cycle)) => {
+            Ok(Some(mut cycle)) => {
+                name_edges(&self.numbers, &mut cycle);
                 self.numbers.take_back();
                 Ok(Some(cycle))
             }
@@ -235,7 +238,8 @@ impl ListWitness {
         self.views[replica as usize].check_read(alloc, &self.numbers, list)
     }
 
-    /// Returns `true` if the replica shows each element of the list and none is listed twice.
+    /// Returns the numbers of a list's elements if the replica shows each of them and none is listed twice; otherwise
+    /// returns `None`.
     ///
     /// # Errors
     ///
@@ -244,12 +248,21 @@ impl ListWitness {
     /// # Complexity
     ///
     /// That of `ReplicaView::check_part`.
-    pub fn check_part(&mut self, alloc: Global, replica: u8, list: &[u32]) -> Result<bool, NoMemory>
+    pub fn check_part(
+        &mut self,
+        alloc: Global,
+        replica: u8,
+        list: &[u32],
+    ) -> Result<Option<Vec<u32>>, NoMemory>
         // The replica has a view.
         requires { replica < length self.old.views }
-        // The result is `true` exactly if the list has shown elements alone, each at most once.
-        ensures exactly { IfOk result (λ is. IsTrue is
-            ↔ IsPart self.old.elements (view_at self.old.views replica).marks list.now) }
+        // The result is `None` exactly if the list has not shown elements alone, each at most once.
+        ensures exactly { let marks = (view_at self.old.views replica).marks in
+            IfOk result (λ found. MatchOption found (¬ IsPart self.old.elements marks list.now)
+            (λ part. IsPart self.old.elements marks list.now)) }
+        // The numbers are those of the listed elements.
+        ensures numbers { IfOk result (λ found. MatchOption found (Unit {0})
+            (λ part. AreNumbersOf self.old.elements list.now part.items)) }
         // Nothing is changed.
         ensures same { self.new ≡ self.old }
     {
@@ -265,30 +278,30 @@ impl ListWitness {
     ///
     /// # Complexity
     ///
-    /// That of `ra_list_edges::add_read` for the places at which the list differs from the replica's last read.
+    /// That of `ra_list_edges::add_read` for the places at which the list differs from the replica's last read, and
+    /// O(length of the cycle) if there is one.
     pub fn read(
         &mut self,
         alloc: Global,
         replica: u8,
-        list: &[u32],
         listed: Listed,
         label: u32,
     ) -> Result<Option<Vec<Edge>>, NoMemory>
         // The replica has a view.
         requires replica { replica < length self.old.views }
-        // The numbers are those of the listed elements.
-        requires numbers { AreNumbersOf self.old.elements list.now listed.numbers.items }
+        // The numbers are those of the elements of a list.
+        requires numbers { (list : List ℕ) × AreNumbersOf self.old.elements list listed.numbers.items }
         // Except at the given indexes, each directly follows the one before it in the last read too.
         requires as_last { AreAsLast (view_at self.old.views replica).last listed.numbers.items listed.places.items }
         // The elements are unchanged, even after a failure.
         ensures elements { self.new.elements ≡ self.old.elements }
         // The marks are unchanged, even after a failure.
         ensures marks { AreSameMarks self.old.views self.new.views }
-        // All edges are added; or the result is a cycle, and the edges are unchanged.
-        ensures edges { IfOk result (λ found. MatchOption found
-            (AddsPairs label list.now self.old.edges self.new.edges)
+        // All edges of the list are added; or the result is a cycle, and the edges are unchanged.
+        ensures edges { (list : List ℕ) → AreNumbersOf self.old.elements list listed.numbers.items
+            → IfOk result (λ found. MatchOption found (AddsPairs label list self.old.edges self.new.edges)
             (λ cycle. (self.new.edges ≡ self.old.edges)
-            × IsCycle (with_pairs label list.now self.old.edges) cycle.items)) }
+            × IsCycle (with_pairs label list self.old.edges) cycle.items)) }
         // The read is the replica's last one, unless the result is a cycle: then the views are unchanged.
         ensures kept { IfOk result (λ found. MatchOption found
             ((view_at self.new.views replica).last ≡ listed.numbers.items)
@@ -299,12 +312,15 @@ impl ListWitness {
         ensures failed_views { OnErr result (self.new.views ≡ self.old.views) }
     {
         let Listed { numbers, places } = listed;
-        match add_read(alloc, &mut self.order, list, &places, label)? {
+        match add_read(alloc, &mut self.order, &numbers, &places, label)? {
             None => {
                 self.views[replica as usize].keep(numbers);
                 Ok(None)
             }
-            Some(cycle) => Ok(Some(cycle)),
+            Some(mut closed) => {
+                name_edges(&self.numbers, &mut closed);
+                Ok(Some(closed))
+            }
         }
     }
 
@@ -317,28 +333,32 @@ impl ListWitness {
     ///
     /// # Complexity
     ///
-    /// That of `ra_list_edges::add_part`.
+    /// That of `ra_list_edges::add_part`, and O(length of the cycle) if there is one.
     pub fn read_part(
         &mut self,
         alloc: Global,
-        list: &[u32],
+        part: &[u32],
         label: u32,
     ) -> Result<Option<Vec<Edge>>, NoMemory>
-        // Some replica shows the listed elements.
-        requires { (replica : ℕ) × IsPart self.old.elements (view_at self.old.views replica).marks list.now }
+        // The numbers are those of the elements of a list.
+        requires { (list : List ℕ) × AreNumbersOf self.old.elements list part.now }
         // The elements are unchanged, even after a failure.
         ensures elements { self.new.elements ≡ self.old.elements }
         // The views are unchanged, even after a failure.
         ensures views { self.new.views ≡ self.old.views }
-        // All edges are added; or the result is a cycle, and the edges are unchanged.
-        ensures edges { IfOk result (λ found. MatchOption found
-            (AddsPairs label list.now self.old.edges self.new.edges)
+        // All edges of the list are added; or the result is a cycle, and the edges are unchanged.
+        ensures edges { (list : List ℕ) → AreNumbersOf self.old.elements list part.now
+            → IfOk result (λ found. MatchOption found (AddsPairs label list self.old.edges self.new.edges)
             (λ cycle. (self.new.edges ≡ self.old.edges)
-            × IsCycle (with_pairs label list.now self.old.edges) cycle.items)) }
+            × IsCycle (with_pairs label list self.old.edges) cycle.items)) }
         // After a failed allocation the edges are unchanged.
         ensures failed { OnErr result (self.new.edges ≡ self.old.edges) }
     {
-        add_part(alloc, &mut self.order, list, label)
+        let Some(mut cycle) = add_part(alloc, &mut self.order, part, label)? else {
+            return Ok(None);
+        };
+        name_edges(&self.numbers, &mut cycle);
+        Ok(Some(cycle))
     }
 
     /// Adds the delivery of an insertion: the replica shows the element.
@@ -359,8 +379,6 @@ impl ListWitness {
         requires missing { mark_of self.old.views replica number ≡ marks.Missing }
         // The elements and the edges are unchanged, even after a failure.
         ensures same { (self.new.elements ≡ self.old.elements) × (self.new.edges ≡ self.old.edges) }
-        // The kept order is unchanged, even after a failure.
-        ensures order { self.new.order ≡ self.old.order }
         // The last reads are unchanged, even after a failure.
         ensures lasts { (other : ℕ) → (view_at self.new.views other).last ≡ (view_at self.old.views other).last }
         // The replica shows the element; the other marks are unchanged.
@@ -385,8 +403,6 @@ impl ListWitness {
         requires had { ¬ (mark_of self.old.views replica number ≡ marks.Missing) }
         // The elements and the edges are unchanged.
         ensures same { (self.new.elements ≡ self.old.elements) × (self.new.edges ≡ self.old.edges) }
-        // The kept order is unchanged.
-        ensures order { self.new.order ≡ self.old.order }
         // The last reads are unchanged.
         ensures lasts { (other : ℕ) → (view_at self.new.views other).last ≡ (view_at self.old.views other).last }
         // The replica no longer shows the element; the other marks are unchanged.
@@ -409,8 +425,6 @@ impl ListWitness {
         requires { from < length self.old.views }
         // The elements and the edges are unchanged, even after a failure.
         ensures same { (self.new.elements ≡ self.old.elements) × (self.new.edges ≡ self.old.edges) }
-        // The kept order is unchanged, even after a failure.
-        ensures order { self.new.order ≡ self.old.order }
         // The next replica has a copy of the view.
         ensures joined { OnOk result (self.new.views ≡ self.old.views ++ view_at self.old.views from ∷ []) }
         // After a failed allocation the views are unchanged.
@@ -421,14 +435,39 @@ impl ListWitness {
         Ok(())
     }
 
-    /// Returns the kept order and its edges.
-    pub fn order(&self) -> &ListOrder
-        // The order and the edges are those of the witness.
-        ensures same { (result.now.order ≡ self.now.order) × (result.now.edges ≡ self.now.edges) }
-        // The order has all elements.
-        ensures all { (x : ℕ) → Contains self.now.elements x → Contains result.now.order x }
+    /// Does nothing. Its clause states for the proofs of callers what holds of every `ListWitness`.
+    pub fn invariant(&self)
+        // Some order has exactly the elements, each once, and extends the edges.
+        ensures { (order : List ℕ) × IsOrderOf order self.now.elements × Extends order self.now.edges }
     {
-        &self.order
+        self.numbers.invariant();
+        self.order.invariant();
+    }
+
+    /// Returns the elements in the kept order.
+    ///
+    /// # Errors
+    ///
+    /// `NoMemory` if allocation fails.
+    ///
+    /// # Complexity
+    ///
+    /// O(n) with `n` elements.
+    pub fn list_order(&self, alloc: Global) -> Result<Vec<u32>, NoMemory>
+        // The result has exactly the elements, each once.
+        ensures whole { IfOk result (λ order. IsOrderOf order.items self.now.elements) }
+        // The result extends the edges.
+        ensures extends { IfOk result (λ order. Extends order.items self.now.edges) }
+    {
+        self.numbers.invariant();
+        self.order.invariant();
+        let numbers = self.order.elements(alloc)?;
+        elements_of(alloc, &self.numbers, &numbers)
+    }
+
+    /// Returns the number of edges, for the tests.
+    pub(crate) fn edge_count(&self) -> usize {
+        self.order.edge_count()
     }
 
     /// Returns what the replica's view says of the element with this number.
@@ -455,19 +494,5 @@ impl ListWitness {
         ensures { result ≡ length self.now.elements }
     {
         self.numbers.len()
-    }
-}
-
-// Returns the cause that is tested first, of those of the two neighbours.
-fn first_cause(left: Option<Cause>, right: Option<Cause>) -> Option<Cause>
-    ensures { result ≡ first_cause left right }
-{
-    match left {
-        None => right,
-        Some(Cause::Update) => left,
-        Some(_) => match right {
-            Some(Cause::Update) => right,
-            _ => left,
-        },
     }
 }

@@ -85,14 +85,11 @@ fn insert(
     if let Some(cause) = witness.cause_of_insertion(replica, insertion) {
         return Ok(Some(cause));
     }
-    let (elements, edges) = (witness.len(), witness.order().edge_count());
+    let (elements, edges) = (witness.len(), witness.edge_count());
     if let Ok(cycle) = witness.insert(alloc, replica, insertion, label) {
         return Ok(order_if(cycle.is_some()));
     }
-    assert_eq!(rt;
-        (witness.len(), witness.order().edge_count()),
-        (elements, edges)
-    );
+    assert_eq!(rt; (witness.len(), witness.edge_count()), (elements, edges));
     assert!(rt; (replica as usize) < witness.replicas());
     assert!(rt; witness.cause_of_insertion(replica, insertion).is_none());
     let cycle = witness.insert(alloc, replica, insertion, label)?;
@@ -129,7 +126,7 @@ fn try_read(
     let Some(listed) = witness.check_read(alloc, replica, list)? else {
         return Ok(Some(Cause::Query));
     };
-    let cycle = witness.read(alloc, replica, list, listed, label)?;
+    let cycle = witness.read(alloc, replica, listed, label)?;
     Ok(order_if(cycle.is_some()))
 }
 
@@ -156,10 +153,10 @@ fn try_read_part(
     label: u32,
 ) -> Result<Option<Cause>, NoMemory> {
     assert!(rt; (replica as usize) < witness.replicas());
-    if !witness.check_part(alloc, replica, list)? {
+    let Some(part) = witness.check_part(alloc, replica, list)? else {
         return Ok(Some(Cause::Query));
-    }
-    let cycle = witness.read_part(alloc, list, label)?;
+    };
+    let cycle = witness.read_part(alloc, &part, label)?;
     Ok(order_if(cycle.is_some()))
 }
 
@@ -233,10 +230,10 @@ fn a_repeated_read_adds_no_edge(rt: HostRuntime) -> Result<(), Fail> {
     for (label, step) in steps.iter().enumerate() {
         assert!(rt; make(&rt, alloc, &mut witness, *step, (label % 64) as u32)?.is_none());
     }
-    assert_eq!(rt; witness.order().edge_count(), 2);
-    let order = match witness.order().elements(alloc) {
+    assert_eq!(rt; witness.edge_count(), 2);
+    let order = match witness.list_order(alloc) {
         Ok(order) => order,
-        Err(_) => witness.order().elements(alloc)?,
+        Err(_) => witness.list_order(alloc)?,
     };
     assert_eq!(rt; order.as_slice(), [1, 3, 2].as_slice());
     Ok(())

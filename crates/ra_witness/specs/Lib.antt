@@ -7,6 +7,7 @@ pub mod Overriding
 pub mod Overridden
 pub mod Rga
 pub mod KeptList
+pub mod ListOrder
 pub mod Settled
 pub mod Offered
 pub mod Effects

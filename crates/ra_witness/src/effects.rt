@@ -21,6 +21,7 @@ ghost use Rattle.ra_rewrite.specs.Parts.{acts_in};
 ghost use Rattle.ra_witness.specs.Labels.{update_in, updates_in, updates_by_number};
 ghost use Rattle.ra_witness.specs.States.{steps_of};
 ghost use Rattle.ra_witness.specs.Settled.{SettlesMore};
+ghost use Rattle.ra_witness.specs.ListOrder.{Explains};
 ghost use Rattle.ra_witness.specs.Sequence.{has_query_half};
 ghost use Rattle.ra_witness.specs.Offered.{IsOffered, IsDelivered, IsJoinedFrom};
 ghost use Rattle.ra_witness.specs.Effects.{AreEffectsOf, IsOverridingOf, IsFoundIn, MayMeet, MayAdd, MayWrite, MayDeliver, MayJoinFrom};
@@ -259,6 +260,22 @@ impl Effects {
             Effects::Commuting(kept) => has_query_half(&kept.updates, label),
             Effects::Overriding(_) | Effects::Rga(_) => false,
             Effects::List(kept) => kept.has_update(label),
+        }
+    }
+
+    /// Returns the elements of a list, removed ones too, in the kept order; `None` for another kind.
+    ///
+    /// # Errors
+    ///
+    /// `NoMemory` if allocation fails.
+    pub fn list_order(&self) -> Result<Option<Vec<u32>>, NoMemory>
+        ensures { (past : History) → AreEffectsOf self.now past → IfOk result (λ found.
+            MatchOption found (¬ (past.kind ≡ kinds.List))
+            (λ order. (past.kind ≡ kinds.List) × Explains order.items past.records)) }
+    {
+        match self {
+            Effects::Commuting(_) | Effects::Overriding(_) | Effects::Rga(_) => Ok(None),
+            Effects::List(kept) => Ok(Some(kept.list_order()?)),
         }
     }
 

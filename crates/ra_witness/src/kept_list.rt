@@ -13,6 +13,7 @@ ghost use Rattle.ra_witness.specs.Labels.{update_in, updates_by_number};
 ghost use Rattle.ra_witness.specs.States.{steps_of};
 ghost use Rattle.ra_witness.specs.Sequence.{has_query_half};
 ghost use Rattle.ra_witness.specs.KeptList.{IsListOf, IsFoundFor, MayTake, MayReceive, MayCopy};
+ghost use Rattle.ra_witness.specs.ListOrder.{Explains};
 ghost use Rattle.ra_witness.specs.Offered.{IsOffered, IsDelivered, IsJoinedFrom};
 
 use ra_labels::{Cause, Label, NoMemory, Op};
@@ -96,8 +97,8 @@ impl KeptList {
         {
             Some(_cycle) => Ok(None),
             None => {
-                // The kept order extends the edges of all labels: it is the order that explains them.
-                let _order = self.effects.order();
+                // Some order extends the edges of all labels: it is the order that explains them.
+                self.effects.invariant();
                 Ok(Some(u64::from(op.is_update())))
             }
         }
@@ -134,6 +135,18 @@ impl KeptList {
             → OnErr result (IsListOf self.new initial_replicas records) }
     {
         self.effects.join(from)
+    }
+
+    /// Returns the inserted elements, removed ones too, in the kept order.
+    ///
+    /// # Errors
+    ///
+    /// `NoMemory` if allocation fails.
+    pub fn list_order(&self) -> Result<Vec<u32>, NoMemory>
+        ensures { (initial_replicas : ℕ) (records : Records) → IsListOf self.now initial_replicas records
+            → IfOk result (λ order. Explains order.items records) }
+    {
+        self.effects.list_order(self.allocator())
     }
 
     /// Returns `true` if the label has an update, and so two halves.

@@ -1,5 +1,5 @@
 //! The witness: an order of labels, and the state of each replica.
-ghost use Rattle.std.specs.Prelude.{◌≡◌, ℕ, ◌+◌, ◌<◌, ◌≤◌, ◌++◌, ◌∷◌, true, List, length, map, min, Option, None, Ok, IfOk, OnOk, OnErr};
+ghost use Rattle.std.specs.Prelude.{◌≡◌, ℕ, ◌+◌, ◌<◌, ◌≤◌, ◌++◌, ◌∷◌, true, List, length, map, min, Option, None, Ok, IfOk, OnOk, OnErr, MatchOption};
 ghost use Rattle.ra_labels.specs.declared.kind.Kind.{Kind};
 ghost use Rattle.ra_labels.specs.declared.kind.Kind.TheVariants as kinds;
 ghost use Rattle.ra_labels.specs.declared.label.Label.{Label};
@@ -14,6 +14,7 @@ ghost use Rattle.ra_witness.specs.Labels.{update_in};
 ghost use Rattle.ra_witness.specs.States.{steps_of};
 ghost use Rattle.ra_witness.specs.Settled.{SettlesMore};
 ghost use Rattle.ra_witness.specs.Sequence.{ref_of};
+ghost use Rattle.ra_witness.specs.ListOrder.{Explains};
 ghost use Rattle.ra_witness.specs.Witness.{IsWitnessOf, MayOffer, MayDeliver, MayJoin};
 ghost use Rattle.ra_visibility.specs.Order.{ComesNext};
 
@@ -248,5 +249,24 @@ impl<O: NamedOrder> Witness<O> {
             → IfOk result (λ parts. parts.items ≡ map ref_of (named_sequence past.kind past.records)) }
     {
         part_refs(self.kept.allocator(), &self.order, &self.kept)
+    }
+
+    /// Returns the elements of a list, removed ones too, in the kept order; `None` for another kind.
+    ///
+    /// # Errors
+    ///
+    /// `NoMemory` if allocation fails.
+    ///
+    /// # Complexity
+    ///
+    /// O(n) with `n` elements.
+    pub fn list_order(&self) -> Result<Option<Vec<u32>>, NoMemory>
+        // The result is an order exactly if the kind is a list. The order has the inserted elements, each once, and
+        // extends the edges that the labels require.
+        ensures { (past : History) → IsWitnessOf O.stands_for self.now past → IfOk result (λ found.
+            MatchOption found (¬ (past.kind ≡ kinds.List))
+            (λ order. (past.kind ≡ kinds.List) × Explains order.items past.records)) }
+    {
+        self.kept.list_order()
     }
 }

@@ -1,4 +1,3 @@
-use Rattle.ra_labels.specs.declared.edge.Edge.{Edge}
 use Rattle.ra_list_edges.proofs.PairEdges.{edge_added}
 use Rattle.ra_list_edges.proofs.pairs.add_edge.Goals as goal
 

@@ -1,11 +1,6 @@
-use Rattle.std.proofs.Common.{◌∙◌, sym, ap, subst, get_or, take, arith, ℕ, ◌≡◌, ◌-◌, ◌<◌}
-use Rattle.std.specs.Prelude.{Contains}
-use Rattle.std.specs.List.Sorted.{IsPermutation}
-use Rattle.std.proofs.lemmas.List.{take_all}
+use Rattle.std.proofs.Common.{get_or, arith, ◌-◌}
 use Rattle.std.proofs.lemmas.List.Elements.{Contains-get_or}
 use Rattle.std.proofs.lemmas.List.Sorted.{IsPermutation-trans, Contains-permutation}
-use Rattle.ra_labels.specs.declared.edge.Edge.{Edge}
-use Rattle.ra_labels.specs.Reads.{edges_of_read}
 use Rattle.ra_list_edges.proofs.PairEdges.{pair_among, some_more, all_more, cycle_wider}
 use Rattle.ra_list_edges.proofs.pairs.add_pairs.Goals as goal
 

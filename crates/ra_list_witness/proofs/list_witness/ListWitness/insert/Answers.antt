@@ -1,8 +1,15 @@
-use Rattle.std.proofs.Common.{◌≡◌, ℕ, ◌<◌, List, length, get_or, set, sym, ap, ◌∙◌, subst}
-use Rattle.std.proofs.lemmas.List.{set-set, length-set, get_or_default, get_or-set_same}
+use Rattle.std.proofs.Common.{◌≡◌, ℕ, ◌<◌, List, length, get_or, set, refl, sym, ap, ◌∙◌, subst, arith}
+use Rattle.std.specs.Prelude.{Contains}
+use Rattle.std.proofs.lemmas.List.{set-set, get_or_default, get_or-set_same}
 use Rattle.ra_list_replica.specs.declared.mark.Mark.TheVariants.{Shown}
 use Rattle.ra_list_replica.specs.View.{View, mark_at}
-use Rattle.ra_list_witness.specs.ListWitness.{no_view, view_at, mark_of, IsMarked, ListWitnessKept}
+use Rattle.ra_list_witness.specs.ListWitness.{no_view, view_at, IsMarked, ListWitnessKept}
+use Rattle.ra_labels.specs.Edges.{IsCycle}
+use Rattle.ra_labels.specs.Neighborhood.{neighborhood}
+use Rattle.ra_list_edges.specs.Pairs.{AddsPairs, with_pairs}
+use Rattle.ra_list_witness.specs.Named.{all_named}
+use Rattle.ra_list_witness.proofs.NamedAnswers.{insertion_added, insertion_cycle}
+use Rattle.ra_list_witness.proofs.Placements.{neighbor_kept, placed_few}
 use Rattle.ra_list_witness.proofs.Kept.{IsShownIn, kept_by_insert, kept_by_rejection, taken_back, marked_by_insert}
 use Rattle.ra_list_witness.proofs.list_witness.ListWitness.insert.Goals as goal
 
@@ -38,13 +45,16 @@ invariant_of-self-in-Ok-None c =
     let new = c.add_insertion.new.order in
     let views = inside.views.items in
     let there = has_view views c.args.self.now.views c.args.replica (ap (λ v. v.views) c.self.view_is) c.requires.replica in
+    let placement = c.placement_of-placement.result in
+    let placing = c.placement_of-placement.ensures in
     let added = rw c.in-Ok-None.field-0-is at c.in-Ok-None.ensures.answer in
     subst (λ vs. ListWitnessKept c.add.new.self vs new.order new.edges)
     (sym (set-set views c.args.replica c.reserve.new.self c.insert.new.self))
     (subst (λ xs. ListWitnessKept xs (set views c.args.replica c.insert.new.self) new.order new.edges) (sym c.in_ok-add.ensures.added)
     (kept_by_insert inside.numbers views inside.order.order new.order inside.order.edges new.edges c.args.replica
     c.args.insertion.element c.insert.new.self c.args.label _ c.self.invariant there (is_shown c)
-    c.add_insertion.ensures.kept c.in-Ok-None.ensures.there added.some))
+    c.add_insertion.ensures.kept (subst (Contains new.order) placing.element c.in-Ok-None.ensures.there)
+    (placed_few inside.numbers c.args.insertion placement placing) added.some))
 
 pub invariant_of-self-in-Ok-Some : goal.invariant_of-self-in-Ok-Some
 invariant_of-self-in-Ok-Some c =
@@ -72,6 +82,68 @@ invariant_of-self-in-Err c =
     (c.take_back-in-Err.ensures ∙ taken_back inside.numbers c.add.new.self c.args.insertion.element c.in_ok-add.ensures.added)
     c.in-Err.ensures.failed (λ n. c.reserve.ensures.same n ∙ ap (λ v. mark_at v.marks n) was)
     (c.reserve.ensures.last ∙ ap (λ v. v.last) was) c.add_insertion.ensures.kept
+
+pub invariant_of-self-in_err-add : goal.invariant_of-self-in_err-add
+invariant_of-self-in_err-add c =
+    let inside = c.self.inside in
+    let views = inside.views.items in
+    let there = has_view views c.args.self.now.views c.args.replica (ap (λ v. v.views) c.self.view_is) c.requires.replica in
+    let was = was_view views c.args.replica c.index_mut.result.now there c.index_mut.ensures.value in
+    kept_by_rejection inside.numbers c.add.new.self views inside.order.order inside.order.order inside.order.edges
+    inside.order.edges c.args.replica c.reserve.new.self c.self.invariant there c.in_err-add.ensures.failed refl
+    (λ n. c.reserve.ensures.same n ∙ ap (λ v. mark_at v.marks n) was)
+    (c.reserve.ensures.last ∙ ap (λ v. v.last) was) (λ n known. known)
+
+pub add_insertion-requires-clause-left : goal.add_insertion-requires-clause-left
+add_insertion-requires-clause-left c =
+    neighbor_kept c.self.inside.numbers c.args.insertion.left c.placement_of-placement.result.left
+    (Contains c.self.inside.order.order) c.placement_of-placement.ensures.left c.self.invariant.ordered
+
+pub add_insertion-requires-clause-right : goal.add_insertion-requires-clause-right
+add_insertion-requires-clause-right c =
+    neighbor_kept c.self.inside.numbers c.args.insertion.right c.placement_of-placement.result.right
+    (Contains c.self.inside.order.order) c.placement_of-placement.ensures.right c.self.invariant.ordered
+
+pub insert-requires-clause-missing : goal.insert-requires-clause-missing
+insert-requires-clause-missing c =
+    let views = c.self.inside.views.items in
+    let number = c.len-number.result in
+    let there = has_view views c.args.self.now.views c.args.replica (ap (λ v. v.views) c.self.view_is) c.requires.replica in
+    let was = was_view views c.args.replica c.index_mut.result.now there c.index_mut.ensures.value in
+    let again : c.index_mut-in-Ok-None.result.now ≡ c.reserve.new.self =
+    c.index_mut-in-Ok-None.ensures.value ∙ get_or-set_same views c.args.replica c.reserve.new.self _ there in
+    ap (λ v. mark_at v.marks number) again ∙ c.reserve.ensures.same number ∙ ap (λ v. mark_at v.marks number) was
+    ∙ c.self.invariant.beyond c.args.replica number (omega (arith, c.len-number.ensures))
+
+pub returns-in-Ok-None-clause-edges : goal.returns-in-Ok-None-clause-edges
+returns-in-Ok-None-clause-edges c =
+    let inside = c.self.inside in
+    let placement = c.placement_of-placement.result in
+    let placing = c.placement_of-placement.ensures in
+    let list = neighborhood c.args.insertion in
+    let new = c.add_insertion.new.order.edges in
+    subst (λ es. AddsPairs c.args.label list es (all_named c.add.new.self new)) (ap (λ v. v.edges) c.self.view_is)
+    (subst (λ xs. AddsPairs c.args.label list (all_named inside.numbers inside.order.edges) (all_named xs new))
+    (sym c.in_ok-add.ensures.added)
+    (insertion_added inside.numbers c.args.label inside.order.edges c.args.insertion placement c.self.invariant.between
+    placing new (rw c.in-Ok-None.field-0-is at c.in-Ok-None.ensures.answer)))
+
+pub returns-in-Ok-Some-clause-edges : goal.returns-in-Ok-Some-clause-edges
+returns-in-Ok-Some-clause-edges c =
+    let inside = c.self.inside in
+    let placement = c.placement_of-placement.result in
+    let placing = c.placement_of-placement.ensures in
+    let edges = ap (λ v. v.edges) c.self.view_is in
+    let new = c.add_insertion.new.order.edges in
+    let rejected = rw c.in-Ok-Some.field-0-is at c.in-Ok-Some.ensures.answer in
+    let back = c.take_back.ensures
+    ∙ taken_back inside.numbers c.add.new.self c.args.insertion.element c.in_ok-add.ensures.added in (
+      ap (λ xs. all_named xs new) back ∙ ap (all_named inside.numbers) rejected.0 ∙ edges,
+      subst (λ es. IsCycle (with_pairs c.args.label (neighborhood c.args.insertion) es) c.name_edges.new.edges.items) edges
+          (insertion_cycle inside.numbers c.args.label inside.order.edges c.args.insertion placement
+          c.self.invariant.between placing c.in-Ok-Some.cycle.items c.name_edges.new.edges.items rejected.1
+          (c.name_edges.ensures ∙ ap (λ xs. all_named xs c.in-Ok-Some.cycle.items) c.in_ok-add.ensures.added)),
+    )
 
 pub returns-in-Ok-None-clause-marks : goal.returns-in-Ok-None-clause-marks
 returns-in-Ok-None-clause-marks c =

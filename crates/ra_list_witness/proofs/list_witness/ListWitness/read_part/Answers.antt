@@ -1,21 +1,85 @@
-use Rattle.std.proofs.Common.{◌≡◌, Some, sym, ap, subst}
-use Rattle.std.specs.List.{slice_get}
+use Rattle.std.proofs.Common.{sym, ap, ◌∙◌, subst}
 use Rattle.std.proofs.lemmas.List.Sorted.{Contains-permutation}
-use Rattle.ra_list_witness.proofs.Views.{element_there}
-use Rattle.ra_list_witness.proofs.Kept.{kept_views, grown}
+use Rattle.ra_labels.specs.Edges.{IsCycle}
+use Rattle.ra_list_edges.specs.Pairs.{AddsPairs, with_pairs}
+use Rattle.ra_list_replica.specs.Numbers.{AreNumbersOf}
+use Rattle.ra_list_witness.specs.Named.{all_named}
+use Rattle.ra_list_witness.proofs.LastReads.{numbers_within}
+use Rattle.ra_list_witness.proofs.Kept.{kept_views, between_after, grown}
+use Rattle.ra_list_witness.proofs.NamedAnswers.{read_added, read_cycle}
 use Rattle.ra_list_witness.proofs.list_witness.ListWitness.read_part.Goals as goal
 
 pub add_part-requires : goal.add_part-requires
-add_part-requires c = λ x there.
-    let (n, is, shown) = c.requires.1.shown x there in
-    let at = subst (λ xs. slice_get xs n ≡ Some x) (sym (ap (λ v. v.elements) c.self.view_is)) is in
-    c.self.invariant.ordered x (element_there c.self.inside.numbers n x at)
+add_part-requires c = λ n there.
+    let (list, are) = c.requires in
+    let mine = subst (λ xs. AreNumbersOf xs list c.args.part.now) (sym (ap (λ v. v.elements) c.self.view_is)) are in
+    c.self.invariant.ordered n (numbers_within c.self.inside.numbers list c.args.part.now n mine there)
 
 pub invariant_of-self : goal.invariant_of-self
 invariant_of-self c =
-    let old = c.self.inside.order in
+    let inside = c.self.inside in
+    let old = inside.order in
     let new = c.add_part.new.order in
-    kept_views c.self.inside.numbers c.self.inside.views.items old.order new.order old.edges new.edges c.self.invariant
-    (λ y there. Contains-permutation old.order new.order y c.add_part.ensures.elements there)
-    (grown (λ cycle. cycle.items) c.add_part.result c.args.label c.args.list.now old.edges new.edges
+    let numbers = c.args.part.now in
+    let (list, are) = c.requires in
+    let mine = subst (λ xs. AreNumbersOf xs list numbers) (sym (ap (λ v. v.elements) c.self.view_is)) are in
+    kept_views inside.numbers inside.views.items old.order new.order old.edges new.edges c.self.invariant
+    (λ n there. Contains-permutation old.order new.order n c.add_part.ensures.elements there)
+    (between_after (λ cycle. cycle.items) c.add_part.result inside.numbers c.args.label numbers old.edges new.edges
+    c.self.invariant.between (λ n there. numbers_within inside.numbers list numbers n mine there)
     c.add_part.ensures.answer c.add_part.ensures.failed)
+    (grown (λ cycle. cycle.items) c.add_part.result c.args.label numbers old.edges new.edges
+    c.add_part.ensures.answer c.add_part.ensures.failed)
+
+pub invariant_of-self-in_default : goal.invariant_of-self-in_default
+invariant_of-self-in_default c =
+    let inside = c.self.inside in
+    let old = inside.order in
+    let new = c.add_part.new.order in
+    let numbers = c.args.part.now in
+    let (list, are) = c.requires in
+    let mine = subst (λ xs. AreNumbersOf xs list numbers) (sym (ap (λ v. v.elements) c.self.view_is)) are in
+    kept_views inside.numbers inside.views.items old.order new.order old.edges new.edges c.self.invariant
+    (λ n there. Contains-permutation old.order new.order n c.add_part.ensures.elements there)
+    (between_after (λ cycle. cycle.items) c.add_part.result inside.numbers c.args.label numbers old.edges new.edges
+    c.self.invariant.between (λ n there. numbers_within inside.numbers list numbers n mine there)
+    c.add_part.ensures.answer c.add_part.ensures.failed)
+    (grown (λ cycle. cycle.items) c.add_part.result c.args.label numbers old.edges new.edges
+    c.add_part.ensures.answer c.add_part.ensures.failed)
+
+pub returns-in_default-clause-edges : goal.returns-in_default-clause-edges
+returns-in_default-clause-edges c = λ list are.
+    let inside = c.self.inside in
+    let mine = subst (λ xs. AreNumbersOf xs list c.args.part.now) (sym (ap (λ v. v.elements) c.self.view_is)) are in
+    let new = c.add_part.new.order.edges in
+    subst (λ es. AddsPairs c.args.label list es (all_named inside.numbers new)) (ap (λ v. v.edges) c.self.view_is)
+    (read_added inside.numbers c.args.label inside.order.edges list c.args.part.now new mine
+    (rw c.in_default.is at c.in_ok-cycle.ensures.answer))
+
+pub invariant_of-self-2 : goal.invariant_of-self-2
+invariant_of-self-2 c =
+    let inside = c.self.inside in
+    let old = inside.order in
+    let new = c.add_part.new.order in
+    let numbers = c.args.part.now in
+    let (list, are) = c.requires in
+    let mine = subst (λ xs. AreNumbersOf xs list numbers) (sym (ap (λ v. v.elements) c.self.view_is)) are in
+    kept_views inside.numbers inside.views.items old.order new.order old.edges new.edges c.self.invariant
+    (λ n there. Contains-permutation old.order new.order n c.add_part.ensures.elements there)
+    (between_after (λ cycle. cycle.items) c.add_part.result inside.numbers c.args.label numbers old.edges new.edges
+    c.self.invariant.between (λ n there. numbers_within inside.numbers list numbers n mine there)
+    c.add_part.ensures.answer c.add_part.ensures.failed)
+    (grown (λ cycle. cycle.items) c.add_part.result c.args.label numbers old.edges new.edges
+    c.add_part.ensures.answer c.add_part.ensures.failed)
+
+pub returns-clause-edges : goal.returns-clause-edges
+returns-clause-edges c = λ list are.
+    let inside = c.self.inside in
+    let edges = ap (λ v. v.edges) c.self.view_is in
+    let mine = subst (λ xs. AreNumbersOf xs list c.args.part.now) (sym (ap (λ v. v.elements) c.self.view_is)) are in
+    let answer = rw c.in-Some.is at c.in_ok-cycle.ensures.answer in (
+      ap (all_named inside.numbers) answer.0 ∙ edges,
+      subst (λ es. IsCycle (with_pairs c.args.label list es) c.name_edges.new.edges.items) edges
+          (read_cycle inside.numbers c.args.label inside.order.edges list c.args.part.now c.in-Some.cycle.items
+          c.name_edges.new.edges.items mine answer.1 c.name_edges.ensures),
+    )

@@ -31,13 +31,13 @@ returns-in-None-clause-taken c = λ initial_replicas records next stands offered
     let right = cause_is past initial_replicas records next c.args.label.now stands.is offered operation same ∙ none in
     let after = rw c.in-None.is at c.in_ok-_cycle.ensures.added past stands.stands right in
     let inside = within c.args.self.now.effects past stands.stands in
-    let later = with_operation past c.args.label.now.replica operation c.args.label.now.number in (
+    let later = with_operation past c.args.label.now.replica operation c.args.label.now.number in
+    let (order, whole, extends) = c.invariant.ensures later after in (
       record {
         past = later;
         stands = after;
         is = past_now past initial_replicas records next c.args.label.now operation stands.is offered same right inside;
       },
       explained past initial_replicas records next c.args.label.now operation stands.is offered same right inside
-          c.order-order.result.now.order c.order-order.ensures.once (c.order-order.ensures.extends later after)
-          (λ x. c.order-order.ensures.all later x after),
+          order whole.0 extends (λ x there. (whole.1 x).1 there),
     )
