@@ -140,18 +140,6 @@ others_counted edges edge x y other =
           omega (arith, more, none)
     ]
 
--- a count is written again
-pub counts_again : (m n : BTreeMap (ℕ × ℕ) ℕ) (edges : List Edge) (a b k : ℕ) → AreCounted (get pair_cmp m) edges
-    → k ≡ unwrap_or (get pair_cmp m (a, b)) 0 → Updates pair_cmp m n (a, b) (Some k) → AreCounted (get pair_cmp n) edges
-counts_again m n edges a b k counted is updates =
-    counts_set (get pair_cmp m) (get pair_cmp n) edges edges a b k counted (paired m n a b k updates) (is ∙ counted a b)
-    (λ x y other. refl)
-
-pub counts_unchanged : (m n : BTreeMap (ℕ × ℕ) ℕ) (edges : List Edge) → n.entries ≡ m.entries
-    → AreCounted (get pair_cmp m) edges → AreCounted (get pair_cmp n) edges
-counts_unchanged m n edges same counted a b =
-    ap (λ v. unwrap_or v 0) (ap (lookup (is_at (pair_cmp (a, b)))) same) ∙ counted a b
-
 -- a key that the map has gets its value
 pub set_again : {E : Type 0} (m n : BTreeMap (ℕ × ℕ) ℕ) (a b v : ℕ) (r : Result (Option ℕ) E)
     → ¬ (get pair_cmp m (a, b) ≡ None) → OnOk r (Updates pair_cmp m n (a, b) (Some v))
@@ -159,25 +147,18 @@ pub set_again : {E : Type 0} (m n : BTreeMap (ℕ × ℕ) ℕ) (a b v : ℕ) (r 
 set_again m n a b v (Ok was) known updates absent = paired m n a b v updates
 set_again m n a b v (Err failed) known updates absent = absurd (known absent)
 
-not_none : (v : Option ℕ) (n : ℕ) → v ≡ Some n → ¬ (v ≡ None)
-not_none v n is none = cc
-
-pub counts_pushed : {E : Type 0} (l m n : BTreeMap (ℕ × ℕ) ℕ) (edges new : List Edge) (edge : Edge) (k : ℕ)
-    (r : Result (Option ℕ) E) → AreCounted (get pair_cmp l) edges
-    → k ≡ unwrap_or (get pair_cmp l (edge.before, edge.after)) 0
-    → Updates pair_cmp l m (edge.before, edge.after) (Some k)
-    → OnOk r (Updates pair_cmp m n (edge.before, edge.after) (Some (k + 1)))
-    → OnErr r (get pair_cmp m (edge.before, edge.after) ≡ None)
-    → new ≡ edges ++ edge ∷ [] → AreCounted (get pair_cmp n) new
-counts_pushed l m n edges new edge k r counted is first updates absent made =
+pub counts_pushed : (m n : BTreeMap (ℕ × ℕ) ℕ) (edges new : List Edge) (edge : Edge) (k : ℕ)
+    → AreCounted (get pair_cmp m) edges → k ≡ unwrap_or (get pair_cmp m (edge.before, edge.after)) 0
+    → Updates pair_cmp m n (edge.before, edge.after) (Some (k + 1)) → new ≡ edges ++ edge ∷ []
+    → AreCounted (get pair_cmp n) new
+counts_pushed m n edges new edge k counted is updates made =
     let a = edge.before in
     let b = edge.after in
-    let again = counts_again l m edges a b k counted is first in
-    let set = set_again m n a b (k + 1) r (not_none (get pair_cmp m (a, b)) k first.1) updates absent in
     let number : k ≡ count_by (is_from_to a b) edges = is ∙ counted a b in
     let mine = mine_counted edges edge in
     subst (λ es. AreCounted (get pair_cmp n) es) (sym made)
-    (counts_set (get pair_cmp m) (get pair_cmp n) edges (edges ++ edge ∷ []) a b (k + 1) again set
+    (counts_set (get pair_cmp m) (get pair_cmp n) edges (edges ++ edge ∷ []) a b (k + 1) counted
+    (paired m n a b (k + 1) updates)
     (ap (λ i. i + 1) number ∙ sym mine) (λ x y other. others_counted edges edge x y other))
 
 pub counts_fit : (count : ℕ × ℕ → Option ℕ) (edges : List Edge) (a b k : ℕ) → AreCounted count edges

@@ -1,15 +1,13 @@
 -- The edges to each element: in the other direction they are edges from it.
-use Rattle.std.proofs.Common.{◌≡◌, ℕ, ◌+◌, ◌-◌, ◌<◌, ◌≤◌, List, [], ◌∷◌, ◌++◌, length, get_or, take, map, Option, Some, None, Result, BTreeMap, refl, sym, ap, ◌∙◌, subst, inl, inr, arith, unwrap_or}
-use Rattle.std.specs.Prelude.{Contains, OnOk, OnErr}
-use Rattle.std.specs.BTreeMap.{get, Updates}
-use Rattle.std.specs.Ordering.{nat_cmp}
-use Rattle.std.proofs.lemmas.Bool.{cases_eq}
+use Rattle.std.proofs.Common.{◌≡◌, ℕ, ◌+◌, ◌-◌, ◌<◌, ◌≤◌, List, [], ◌∷◌, ◌++◌, length, get_or, take, map, Option, Some, refl, sym, ap, ◌∙◌, subst, arith, unwrap_or}
+use Rattle.std.specs.Prelude.{Contains}
 use Rattle.std.proofs.lemmas.List.{length-map, map-append, map_push, take-map, get_or-map}
 use Rattle.ra_labels.proofs.Members.{reached}
 use Rattle.ra_labels.specs.declared.edge.Edge.{Edge}
-use Rattle.ra_list_order.specs.EdgePool.{no_edge, edge_at, flipped, IsLastFrom, EdgesLinked}
+use Rattle.ra_list_order.specs.EdgePool.{no_edge, edge_at, flipped, EdgesLinked}
+use Rattle.ra_list_order.specs.Numbers.{IsSetTo, number_in}
 use Rattle.ra_list_order.specs.Sweep.{PushesEdgesInto}
-use Rattle.ra_list_order.proofs.EdgePools.{IsPointed, IsWalking, pointed, pool_push, pool_popped, replaced, walking_more, walking_done, walking_within}
+use Rattle.ra_list_order.proofs.EdgePools.{IsWalking, last_within, pool_pushed, pool_popped, walking_more, walking_done, walking_within}
 
 pub flipped_twice : (edges : List Edge) → map flipped (map flipped edges) ≡ edges
 flipped_twice [] = refl
@@ -26,7 +24,7 @@ into_within x edges walked now at is some =
     let long = length-map edges flipped in
     omega (arith, low, long)
 
-pub into_more : (old : ℕ → Option ℕ) (edges : List Edge) (previous : List ℕ) (x : ℕ) (walked now next : List Edge)
+pub into_more : (old : ℕ → ℕ) (edges : List Edge) (previous : List ℕ) (x : ℕ) (walked now next : List Edge)
     (at at_next : ℕ) → EdgesLinked old (map flipped edges) previous → IsWalkingInto x edges walked now at → 0 < at
     → next ≡ now ++ edge_at edges (at - 1) ∷ [] → at_next ≡ get_or previous (at - 1) 0
     → IsWalkingInto x edges walked next at_next
@@ -59,70 +57,49 @@ into_done x edges walked now at is none =
       },
     )
 
--- the map gets the number that it has
-pub into_again : (m n : BTreeMap ℕ ℕ) (edges : List Edge) (previous : List ℕ) (x link : ℕ)
-    → EdgesLinked (get nat_cmp m) edges previous → link ≡ unwrap_or (get nat_cmp m x) 0
-    → Updates nat_cmp m n x (Some link) → EdgesLinked (get nat_cmp n) edges previous
-into_again m n edges previous x link linked link_is updates =
-    let set = pointed m n x link updates in
-    let same : (q : ℕ) → unwrap_or (get nat_cmp n q) 0 ≡ unwrap_or (get nat_cmp m q) 0 = λ q. elim (cases_eq q x) [
-      | inl is ↦
-          ap (λ y. unwrap_or (get nat_cmp n y) 0) is ∙ ap (λ o. unwrap_or o 0) set.here ∙ link_is
-          ∙ ap (λ y. unwrap_or (get nat_cmp m y) 0) (sym is)
-      | inr other ↦ ap (λ o. unwrap_or o 0) (set.apart q other)
-    ] in
-    record {
-      lasts = λ q. subst (λ k. IsLastFrom q edges (length edges) k) (sym (same q)) (linked.lasts q);
-      links = linked.links;
-      as_many = linked.as_many;
-    }
-
-pub into_pushed : {E : Type 0} (m l n : BTreeMap ℕ ℕ) (r : Result (Option ℕ) E) (edges read new_edges : List Edge)
-    (edge : Edge)
+pub into_pushed : (old mid new : ℕ → ℕ) (edges read new_edges : List Edge) (edge : Edge)
     (previous read_previous new_previous : List ℕ) (number link : ℕ)
-    → EdgesLinked (get nat_cmp m) (map flipped edges) previous → link ≡ unwrap_or (get nat_cmp m edge.after) 0
-    → Updates nat_cmp m l edge.after (Some link) → OnOk r (Updates nat_cmp l n edge.after (Some number))
-    → OnErr r (get nat_cmp l edge.after ≡ None) → read ≡ edges → read_previous ≡ previous → number ≡ length read + 1
+    → EdgesLinked old (map flipped edges) previous → read ≡ edges → read_previous ≡ previous
+    → number ≡ length edges + 1
+    → ((x : ℕ) → mid x ≡ old x) → IsSetTo edge.after number mid new → link ≡ mid edge.after
     → new_edges ≡ read ++ edge ∷ [] → new_previous ≡ read_previous ++ link ∷ []
-    → EdgesLinked (get nat_cmp n) (map flipped new_edges) new_previous
-into_pushed m l n r edges read new_edges edge previous read_previous new_previous number link linked link_is first
-    second absent reads reads_previous number_is made made_previous =
-    let there = pointed m l edge.after link first in
-    let done = replaced r (get nat_cmp l edge.after) (Updates nat_cmp l n edge.after (Some number)) absent
-    (λ none. some_none link (sym there.here ∙ none)) second in
-    let set = pointed l n edge.after number done in
+    → EdgesLinked new (map flipped new_edges) new_previous
+into_pushed old mid new edges read new_edges edge previous read_previous new_previous number link linked reads
+    reads_previous number_is same done link_is made made_previous =
     let long = length-map edges flipped in
-    let both : IsPointed (get nat_cmp m) (get nat_cmp n) (flipped edge).before (length (map flipped edges) + 1) = record {
-      here = set.here ∙ ap Some (number_is ∙ ap (λ es. length es + 1) reads ∙ ap (λ k. k + 1) (sym long));
-      apart = λ q other. set.apart q other ∙ there.apart q other;
-    } in
-    let pushed = pool_push (get nat_cmp m) (get nat_cmp n) (map flipped edges) (flipped edge) previous linked both in
-    subst (λ es. EdgesLinked (get nat_cmp n) es new_previous)
-    (sym (ap (map flipped) (made ∙ ap (λ es. es ++ edge ∷ []) reads) ∙ map_push flipped edges edge))
-    (subst (λ ls. EdgesLinked (get nat_cmp n) (map flipped edges ++ flipped edge ∷ []) ls)
-    (sym (made_previous ∙ ap (λ ls. ls ++ link ∷ []) reads_previous ∙ ap (λ k. previous ++ k ∷ []) link_is)) pushed)
-  where
-    some_none : (a : ℕ) → Some a ≡ None → ⊥
-    some_none a same = cc
+    pool_pushed old mid new (map flipped edges) (map flipped read) (map flipped new_edges) (flipped edge) previous
+    read_previous new_previous number link linked (ap (map flipped) reads) reads_previous
+    (number_is ∙ ap (λ k. k + 1) (sym long)) same done link_is
+    (ap (map flipped) made ∙ map_push flipped read edge) made_previous
 
-pub into_popped : {E : Type 0} (m n : BTreeMap ℕ ℕ) (r : Result (Option ℕ) E) (edges new_edges : List Edge)
-    (edge : Edge)
-    (previous new_previous : List ℕ) (link : ℕ) (value : Option ℕ)
-    → EdgesLinked (get nat_cmp m) (map flipped edges) previous → 0 < length edges
-    → edge ≡ edge_at edges (length edges - 1) → value ≡ Some (get_or previous (length previous - 1) 0)
-    → link ≡ unwrap_or value 0
-    → OnOk r (Updates nat_cmp m n edge.after (Some link)) → OnErr r (get nat_cmp m edge.after ≡ None)
-    → new_edges ≡ take (length edges - 1) edges → new_previous ≡ take (length previous - 1) previous
-    → EdgesLinked (get nat_cmp n) (map flipped new_edges) new_previous
-into_popped m n r edges new_edges edge previous new_previous link value linked some edge_is value_is link_is updates
-    absent made made_previous =
-    let long = length-map edges flipped in
-    pool_popped m n r (map flipped edges) (map flipped new_edges) (flipped edge) previous new_previous link value linked
-    (omega (arith, long, some))
-    (ap flipped edge_is
+-- the last edge in the other direction
+into_last : (edges : List Edge) (edge : Edge) → 0 < length edges → edge ≡ edge_at edges (length edges - 1)
+    → flipped edge ≡ edge_at (map flipped edges) (length (map flipped edges) - 1)
+into_last edges edge some edge_is =
+    ap flipped edge_is
     ∙ sym (get_or-map flipped edges (length edges - 1) no_edge no_edge (omega (arith, some)))
-    ∙ ap (λ k. edge_at (map flipped edges) (k - 1)) (sym long))
-    value_is link_is updates absent
+    ∙ ap (λ k. edge_at (map flipped edges) (k - 1)) (sym (length-map edges flipped))
+
+pub last_into_within : (lasts : List ℕ) (edges : List Edge) (edge : Edge) (previous : List ℕ)
+    → EdgesLinked (number_in lasts) (map flipped edges) previous → 0 < length edges
+    → edge ≡ edge_at edges (length edges - 1) → edge.after < length lasts
+last_into_within lasts edges edge previous linked some edge_is =
+    let long = length-map edges flipped in
+    last_within lasts (map flipped edges) (flipped edge) previous linked (omega (arith, long, some))
+    (into_last edges edge some edge_is)
+
+pub into_popped : (old new : ℕ → ℕ) (edges new_edges : List Edge) (edge : Edge)
+    (previous new_previous : List ℕ) (link : ℕ) (value : Option ℕ)
+    → EdgesLinked old (map flipped edges) previous → 0 < length edges
+    → edge ≡ edge_at edges (length edges - 1) → value ≡ Some (get_or previous (length previous - 1) 0)
+    → link ≡ unwrap_or value 0 → IsSetTo edge.after link old new
+    → new_edges ≡ take (length edges - 1) edges → new_previous ≡ take (length previous - 1) previous
+    → EdgesLinked new (map flipped new_edges) new_previous
+into_popped old new edges new_edges edge previous new_previous link value linked some edge_is value_is link_is done
+    made made_previous =
+    let long = length-map edges flipped in
+    pool_popped old new (map flipped edges) (map flipped new_edges) (flipped edge) previous new_previous link value linked
+    (omega (arith, long, some)) (into_last edges edge some edge_is) value_is link_is done
     (ap (map flipped) made ∙ sym (take-map flipped (length edges - 1) edges)
     ∙ ap (λ k. take (k - 1) (map flipped edges)) (sym long))
     made_previous

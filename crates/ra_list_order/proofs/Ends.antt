@@ -12,7 +12,7 @@ use Rattle.std.proofs.lemmas.List.Folds.{list_any-append, list_any_more}
 use Rattle.ra_labels.specs.declared.edge.Edge.{Edge}
 use Rattle.ra_list_order.specs.Marks.{is_marked}
 use Rattle.ra_list_order.specs.Sweep.{IsSwept, PushesEdgesFrom}
-use Rattle.ra_list_order.proofs.EdgePools.{apart_test}
+use Rattle.ra_list_order.proofs.Pointed.{apart_test}
 use Rattle.ra_list_order.proofs.Sweeps.{next_stays, next_moves}
 use Rattle.ra_list_order.proofs.Ways.{ends}
 

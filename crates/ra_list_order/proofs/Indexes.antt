@@ -9,7 +9,7 @@ use Rattle.ra_labels.specs.Edges.{EachOnce, IsBefore}
 use Rattle.ra_list_order.specs.Gathering.{others, gathered, IsIndex}
 use Rattle.ra_list_order.proofs.Adds.{once_moved}
 use Rattle.ra_list_order.proofs.Befores.{before_left, before_right, before_across, before_by_places}
-use Rattle.ra_list_order.proofs.EdgePools.{IsPointed}
+use Rattle.ra_list_order.proofs.Pointed.{IsPointed}
 use Rattle.ra_list_order.proofs.Members.{none_there}
 use Rattle.ra_list_order.proofs.Others.{is_other, among_there, none_among, kept_other, filters_same}
 use Rattle.ra_list_order.proofs.Puts.{once_put}

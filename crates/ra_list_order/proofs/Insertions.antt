@@ -1,19 +1,18 @@
 -- An element inserted into one of the chunks.
-use Rattle.std.proofs.Common.{◌≡◌, ℕ, ◌+◌, ◌-◌, ◌<◌, ◌≤◌, List, [], ◌∷◌, ◌++◌, length, get_or, take, drop, set, Option, Some, None, BTreeMap, refl, sym, ap, ◌∙◌, subst, inl, inr, arith}
+use Rattle.std.proofs.Common.{◌≡◌, ℕ, ◌+◌, ◌-◌, ◌<◌, ◌≤◌, List, [], ◌∷◌, ◌++◌, length, get_or, take, drop, set, Option, Some, None, refl, sym, ap, ◌∙◌, subst, inl, inr, arith}
 use Rattle.std.specs.Prelude.{◌⊎◌, Contains}
 use Rattle.std.specs.List.{insert}
-use Rattle.std.specs.BTreeMap.{get, is_at, Updates}
-use Rattle.std.specs.Map.{lookup}
-use Rattle.std.specs.Ordering.{nat_cmp}
 use Rattle.std.proofs.lemmas.Bool.{cases_eq}
 use Rattle.std.proofs.lemmas.List.{length-set, get_or-set_same, get_or-set_other, take-set, drop-set-lt}
 use Rattle.std.proofs.lemmas.List.Edits.{insert-append_left, insert-append_right}
 use Rattle.std.proofs.lemmas.List.Sorted.{IsPermutation-insert, IsPermutation-sym, Contains-permutation}
 use Rattle.ra_labels.specs.Edges.{EachOnce}
 use Rattle.ra_list_order.specs.ListOrder.{IsPut}
-use Rattle.ra_list_order.specs.Chunks.{Chunk, no_chunk, chunk_at, joined, AreGrouped, IsInsertedAt}
-use Rattle.ra_list_order.proofs.EdgePools.{IsPointed, pointed}
+use Rattle.ra_list_order.specs.Chunks.{Chunk, no_chunk, chunk_at, joined, group_in, AreGrouped, IsInsertedAt}
+use Rattle.ra_list_order.specs.Numbers.{IsSetTo, number_in}
+use Rattle.ra_list_order.proofs.GroupNumbers.{number_set, same_groups}
 use Rattle.ra_list_order.proofs.JoinedChunks.{joined_at, joined_set, in_joined, widen}
+use Rattle.ra_list_order.proofs.Pointed.{IsPointed}
 use Rattle.ra_list_order.proofs.Members.{head_or_behind, at_head, behind_head, read_at}
 use Rattle.ra_list_order.proofs.Puts.{once_put, put_behind, put_before}
 
@@ -29,6 +28,19 @@ has_inserted xs i x = Contains-permutation (x ∷ xs) (insert xs i x) x (IsPermu
 still_there : (xs : List ℕ) (i x y : ℕ) → Contains xs y → Contains (insert xs i x) y
 still_there xs i x y there =
     Contains-permutation (x ∷ xs) (insert xs i x) y (IsPermutation-insert xs i x) (behind_head x xs y there)
+
+-- the same if the array only became longer
+pub grouped_unchanged : (old new : List ℕ) (chunks : List Chunk) (places : List ℕ)
+    → ((x : ℕ) → number_in new x ≡ number_in old x)
+    → AreGrouped (group_in old) chunks places → AreGrouped (group_in new) chunks places
+grouped_unchanged old new chunks places same grouped =
+    let same_get = same_groups old new same in
+    record {
+      once = grouped.once;
+      placed = grouped.placed;
+      found = λ k x within mine. same_get x ∙ grouped.found k x within mine;
+      known = λ x g is. grouped.known x g (sym (same_get x) ∙ is);
+    }
 
 module _ (chunks : List Chunk) (k p x : ℕ) (new : Chunk) (there : k < length chunks)
     (among : p ≤ length (chunk_at chunks k).elements)
@@ -192,29 +204,20 @@ module _ (chunks : List Chunk) (k : ℕ) (read reserved : Chunk) (there : k < le
         ∙ ap (λ cs. joined (take k chunks) ++ (insert (chunk_at chunks k).elements p x ++ joined cs))
         (drop-set-lt (k + 1) chunks k reserved (omega arith))
 
-    pub end_grouped : (m n : BTreeMap ℕ ℕ) (places : List ℕ) (read3 : Chunk) (g : ℕ)
-        → AreGrouped (get nat_cmp m) chunks places → ¬ Contains (joined chunks) x
-        → read3 ≡ get_or mid k read3 → g ≡ read3.group → Updates nat_cmp m n x (Some g)
-        → AreGrouped (get nat_cmp n) (set mid k new) places
-    end_grouped m n places read3 g grouped fresh reads3 is updates =
+    pub end_grouped : (old mid_groups now : List ℕ) (places : List ℕ) (read3 : Chunk) (g : ℕ)
+        → AreGrouped (group_in old) chunks places → ¬ Contains (joined chunks) x
+        → read3 ≡ get_or mid k read3 → g ≡ read3.group
+        → ((y : ℕ) → number_in mid_groups y ≡ number_in old y)
+        → IsSetTo x (g + 1) (number_in mid_groups) (number_in now)
+        → AreGrouped (group_in now) (set mid k new) places
+    end_grouped old mid_groups now places read3 g grouped fresh reads3 is extended done =
         let was3 = read_at mid k no_chunk read3 mid_there reads3 in
         let mine : new.group ≡ (chunk_at mid k).group = group2 ∙ ap (λ (c : Chunk). c.group) was2 in
         let same : g ≡ new.group = is ∙ ap (λ (c : Chunk). c.group) was3 ∙ sym mine in
-        grouped_inserted mid k p x new mid_there among2 made2 (get nat_cmp m) (get nat_cmp n) places
-        (mid_grouped (get nat_cmp m) places grouped)
+        grouped_inserted mid k p x new mid_there among2 made2 (group_in mid_groups) (group_in now) places
+        (mid_grouped (group_in mid_groups) places (grouped_unchanged old mid_groups chunks places extended grouped))
         (λ in_mid. fresh (subst (λ xs. Contains xs x) mid_joined in_mid)) mine
-        (subst (λ v. IsPointed (get nat_cmp m) (get nat_cmp n) x v) same (pointed m n x g updates))
-
-pub grouped_unchanged : (m n : BTreeMap ℕ ℕ) (chunks : List Chunk) (places : List ℕ) → n.entries ≡ m.entries
-    → AreGrouped (get nat_cmp m) chunks places → AreGrouped (get nat_cmp n) chunks places
-grouped_unchanged m n chunks places same grouped =
-    let same_get : (x : ℕ) → get nat_cmp n x ≡ get nat_cmp m x = λ x. ap (lookup (is_at (nat_cmp x))) same in
-    record {
-      once = grouped.once;
-      placed = grouped.placed;
-      found = λ k x within mine. same_get x ∙ grouped.found k x within mine;
-      known = λ x g is. grouped.known x g (sym (same_get x) ∙ is);
-    }
+        (subst (λ v. IsPointed (group_in mid_groups) (group_in now) x v) same (number_set mid_groups now x g done))
 
 -- an element put next to its neighbour in a chunk is put next to it in the whole
 pub put_behind_in : (chunks new : List Chunk) (k p left x : ℕ) (right : Option ℕ) → k < length chunks

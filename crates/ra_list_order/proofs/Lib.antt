@@ -6,6 +6,7 @@ pub mod EdgePools
 pub mod EdgesInto
 pub mod Ends
 pub mod Gatherings
+pub mod GroupNumbers
 pub mod Halves
 pub mod Indexes
 pub mod Insertions
@@ -15,6 +16,7 @@ pub mod Members
 pub mod Moves
 pub mod Others
 pub mod Packings
+pub mod Pointed
 pub mod Puts
 pub mod ReadLists
 pub mod Rearrangements

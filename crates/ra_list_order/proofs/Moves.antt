@@ -1,16 +1,16 @@
 -- Groups that are set, and chunks that are copied or overwritten, one after another.
-use Rattle.std.proofs.Common.{◌≡◌, ℕ, ◌+◌, ◌<◌, ◌≤◌, List, [], ◌∷◌, ◌++◌, length, get_or, take, drop, set, Option, Some, None, BTreeMap, Result, Ok, Err, is_some, refl, sym, ap, ◌∙◌, subst, inl, inr, arith}
-use Rattle.std.specs.BTreeMap.{get, Updates}
-use Rattle.std.specs.Ordering.{nat_cmp}
-use Rattle.std.specs.Prelude.{Contains, IsSome, OnOk, OnErr}
+use Rattle.std.proofs.Common.{◌≡◌, ℕ, ◌+◌, ◌<◌, ◌≤◌, List, [], ◌∷◌, ◌++◌, length, get_or, take, drop, set, Option, Some, is_some, refl, sym, ap, ◌∙◌, subst, inl, inr, arith}
+use Rattle.std.specs.Prelude.{Contains, IsSome}
 use Rattle.std.specs.List.{between}
-use Rattle.std.proofs.lemmas.Bool.{false≢true, cases_eq}
-use Rattle.std.proofs.lemmas.List.{append-nil, length-append, length-set, length-take-le, get_or-set_same, get_or-set_other, get_or-take, get_or-drop, take-take, take_more, take-append-drop, drop-set-lt, drop-drop, take-set}
+use Rattle.std.proofs.lemmas.Bool.{cases_eq, cases_lt}
+use Rattle.std.proofs.lemmas.List.{append-nil, length-append, length-set, length-take-le, get_or-set_same, get_or-set_other, get_or-take, get_or-drop, get_or_past, take-take, take_more, take-append-drop, drop-set-lt, drop-drop, take-set}
 use Rattle.std.proofs.lemmas.Slice.{between_is}
 use Rattle.std.proofs.lemmas.List.Elements.{Contains-append_left, Contains-append_right, Contains-push, Contains-push_cases}
 use Rattle.ra_labels.specs.Edges.{EachOnce}
-use Rattle.ra_list_order.specs.Chunks.{Chunk, no_chunk, chunk_at, joined, HaveSameGroups, AreMovedTo, AreMovedToChunks}
-use Rattle.ra_list_order.proofs.EdgePools.{IsPointed, pointed}
+use Rattle.ra_list_order.specs.Chunks.{Chunk, no_chunk, chunk_at, joined, group_in, HaveSameGroups, AreMovedTo, AreMovedToChunks}
+use Rattle.ra_list_order.specs.Numbers.{number_in}
+use Rattle.ra_list_order.proofs.GroupNumbers.{some_number}
+use Rattle.ra_list_order.proofs.Pointed.{IsPointed}
 use Rattle.ra_list_order.proofs.Members.{same_read}
 use Rattle.ra_list_order.proofs.JoinedChunks.{joined_append, in_joined, from_joined, side, once_left, once_apart}
 
@@ -49,12 +49,15 @@ module _ (elements : List ℕ) (i group : ℕ) (old now new : ℕ → Option ℕ
         (subst (λ xs. Contains xs y) (sym more) (Contains-append_left (take i elements) (x ∷ []) y before)));
   }
 
--- a key that the map has gets its value
-pub set_known : {E : Type 0} (m n : BTreeMap ℕ ℕ) (k v : ℕ) (r : Result (Option ℕ) E) → IsSome (get nat_cmp m k)
-    → OnOk r (Updates nat_cmp m n k (Some v)) → OnErr r (get nat_cmp m k ≡ None)
-    → IsPointed (get nat_cmp m) (get nat_cmp n) k v
-set_known m n k v (Ok was) known updates absent = pointed m n k v updates
-set_known m n k v (Err failed) known updates absent = absurd (false≢true (sym (ap is_some absent) ∙ known))
+-- an element that has a group is within the array
+pub known_within : (groups : List ℕ) (x : ℕ) → IsSome (group_in groups x) → x < length groups
+known_within groups x known = elim (cases_lt x (length groups)) [
+  | inl low ↦ low
+  | inr past ↦
+      let none = get_or_past groups x 0 (omega (arith, past)) in
+      let some = some_number (number_in groups x) known in
+      absurd (omega (arith, none, some))
+]
 
 pub still_known : (elements : List ℕ) (group : ℕ) (old now : ℕ → Option ℕ) (x : ℕ)
     → AreMovedTo elements group old now → IsSome (old x) → IsSome (now x)

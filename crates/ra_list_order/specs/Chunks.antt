@@ -1,7 +1,8 @@
 -- Chunks: a sequence as the concatenation of short lists, and the group of each element.
-use Rattle.std.specs.Prelude.{◌≡◌, ℕ, ◌<◌, ◌≤◌, ◌++◌, ◌+◌, ◌^◌, List, [], length, get_or, take, drop, Option, Some, Contains}
+use Rattle.std.specs.Prelude.{◌≡◌, ℕ, ◌<◌, ◌≤◌, ◌++◌, ◌+◌, ◌^◌, List, [], length, get_or, take, drop, Option, Some, None, zero, suc, Contains}
 use Rattle.std.specs.List.{flat_map, between, insert}
 use Rattle.ra_labels.specs.Edges.{EachOnce}
+use Rattle.ra_list_order.specs.Numbers.{number_in}
 
 -- a chunk, as contracts describe it
 pub record Chunk : Type 0 where
@@ -26,6 +27,15 @@ chunk_at chunks place = get_or chunks place no_chunk
 -- the elements of the chunks, one chunk after another
 abbrev pub joined : List Chunk → List ℕ
 joined chunks = flat_map (λ (chunk : Chunk). chunk.elements) chunks
+
+-- the group that a number says: the number is the group plus one, or 0 for none
+abbrev pub group_of_number : ℕ → Option ℕ
+group_of_number zero = None
+group_of_number (suc group) = Some group
+
+-- the group of each element, in an array of numbers
+abbrev pub group_in : List ℕ → ℕ → Option ℕ
+group_in groups x = group_of_number (number_in groups x)
 
 -- the representation invariant: each element is once in the chunks, each chunk has a group of its own, whose index is
 -- its own, and exactly the elements of the chunks have a group, that of their chunk

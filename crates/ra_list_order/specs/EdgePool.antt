@@ -18,8 +18,8 @@ pub record IsLastFrom (x : ℕ) (edges : List Edge) (n last : ℕ) : Type 0 wher
 
 -- the representation invariant of a pool: the number of the last edge from each element, and of the previous edge from
 -- the same element
-pub record EdgesLinked (last : ℕ → Option ℕ) (edges : List Edge) (previous : List ℕ) : Type 0 where
-  pub lasts : (x : ℕ) → IsLastFrom x edges (length edges) (unwrap_or (last x) 0)
+pub record EdgesLinked (last : ℕ → ℕ) (edges : List Edge) (previous : List ℕ) : Type 0 where
+  pub lasts : (x : ℕ) → IsLastFrom x edges (length edges) (last x)
   pub links : (k : ℕ) → k < length edges → IsLastFrom (edge_at edges k).before edges k (get_or previous k 0)
   pub as_many : length previous ≡ length edges
 
@@ -40,7 +40,7 @@ abbrev pub flipped : Edge → Edge
 flipped edge = record { before = edge.after; after = edge.before; label = edge.label }
 
 -- the representation invariant of a pool
-pub record EdgePoolKept (last last_into : ℕ → Option ℕ) (count : ℕ × ℕ → Option ℕ) (edges : List Edge)
+pub record EdgePoolKept (last last_into : ℕ → ℕ) (count : ℕ × ℕ → Option ℕ) (edges : List Edge)
     (previous previous_into : List ℕ) : Type 0 where
   pub linked : EdgesLinked last edges previous
   pub linked_into : EdgesLinked last_into (map flipped edges) previous_into

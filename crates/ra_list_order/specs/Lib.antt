@@ -3,5 +3,6 @@ pub mod EdgePool
 pub mod Gathering
 pub mod ListOrder
 pub mod Marks
+pub mod Numbers
 pub mod Plans
 pub mod Sweep

@@ -1,5 +1,5 @@
 //! A chunk: a few adjacent elements of a sequence. Its contract is that of a short list with a group.
-ghost use Rattle.std.specs.Prelude.{◌≡◌, ◌<◌, ◌≤◌, ◌++◌, nat_le, [], length, IfOk, OnOk, OnErr};
+ghost use Rattle.std.specs.Prelude.{◌≡◌, ◌+◌, ◌<◌, ◌≤◌, ◌^◌, ◌++◌, nat_le, [], length, IfOk, OnOk, OnErr};
 ghost use Rattle.std.specs.List.{insert};
 ghost use Rattle.ra_list_order.specs.Chunks.{most_in_chunk};
 ghost use Rattle.ra_labels.specs.Listing.{without};
@@ -14,14 +14,14 @@ pub const MOST_IN_CHUNK: usize = 128;
 /// A few adjacent elements.
 #[derive(Drop)]
 pub struct Chunk {
-    /// The group that its elements share.
-    group: usize,
+    /// The group that its elements share. Its number, the group plus one, fits a `u32` as well.
+    group: u32,
     /// The elements in order.
     elements: Vec<u32>,
 }
 
 impl Model for Chunk {
-    ghost use Rattle.std.specs.Prelude.{◌-◌, vec_len, vec_capacity};
+    ghost use Rattle.std.specs.Prelude.{◌+◌, ◌-◌, ◌<◌, ◌^◌, vec_len, vec_capacity};
     ghost use Rattle.ra_list_order.specs.Chunks.{Chunk};
 
     ghost Value = { Chunk };
@@ -31,11 +31,14 @@ impl Model for Chunk {
       elements = a.elements.items;
       room = vec_capacity a.elements - vec_len a.elements;
     } };
+
+    ghost invariant = { λ a. a.group + 1 < 2 ^ 32 };
 }
 
 impl Chunk {
     /// Creates a chunk without elements. Does not allocate.
-    pub fn new(alloc: Global, group: usize) -> Chunk
+    pub fn new(alloc: Global, group: u32) -> Chunk
+        requires { group + 1 < 2 ^ 32 }
         ensures group { result.group ≡ group }
         ensures elements { result.elements ≡ [] }
     {
@@ -46,8 +49,9 @@ impl Chunk {
     }
 
     /// Returns the group of the elements.
-    pub fn group(&self) -> usize
-        ensures { result ≡ self.now.group }
+    pub fn group(&self) -> u32
+        ensures group { result ≡ self.now.group }
+        ensures fits { result + 1 < 2 ^ 32 }
     {
         self.group
     }
@@ -103,8 +107,9 @@ impl Chunk {
     /// # Complexity
     ///
     /// O(c) with `c` elements that move.
-    pub fn split_off(&mut self, position: usize, group: usize) -> Result<Chunk, NoMemory>
+    pub fn split_off(&mut self, position: usize, group: u32) -> Result<Chunk, NoMemory>
         requires among { position ≤ length self.old.elements }
+        requires fits { group + 1 < 2 ^ 32 }
         ensures group { self.new.group ≡ self.old.group }
         ensures new_group { IfOk result (λ right. right.group ≡ group) }
         ensures elements { IfOk result (λ right. self.new.elements ++ right.elements ≡ self.old.elements) }

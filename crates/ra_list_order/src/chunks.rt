@@ -1,15 +1,13 @@
 //! Lists of chunks: the elements of some, copied and overwritten, and the split of one.
 ghost use Rattle.std.specs.Prelude.{◌≡◌, ℕ, ◌<◌, ◌≤◌, length, vec_len, vec_capacity, get_or, Contains, IfOk};
-ghost use Rattle.std.specs.BTreeMap.{get};
-ghost use Rattle.std.specs.Ordering.{nat_cmp};
-ghost use Rattle.ra_list_order.specs.Chunks.{chunk_at, joined, AreGrouped, HaveSameGroups, IsRaised};
+ghost use Rattle.ra_list_order.specs.Chunks.{chunk_at, joined, group_in, AreGrouped, HaveSameGroups, IsRaised};
 ghost use Rattle.ra_list_order.specs.Gathering.{ArePacked, AreRemoved};
 
 use crate::chunk::Chunk;
-use crate::groups::move_to;
+use crate::groups::{group_of, move_to};
+use crate::numbers::next_index;
 use ra_labels::NoMemory;
 use std::alloc::Global;
-use std::collections::BTreeMap;
 
 /// The number of elements of each new chunk if many elements are put into chunks.
 pub const SPREAD: usize = 96;
@@ -56,20 +54,20 @@ pub fn refill(chunks: &mut [Chunk], elements: &[u32])
 ///
 /// # Errors
 ///
-/// `NoMemory` if allocation fails; nothing is changed.
+/// `NoMemory` if allocation fails or if there would be 2^32 groups; nothing is changed.
 ///
 /// # Complexity
 ///
-/// O(c + m log n) with `c` chunks, `n` elements and `m` that move.
+/// O(c + m) with `c` chunks and `m` elements that move.
 pub fn split(
-    groups: &mut BTreeMap<u32, usize>,
+    groups: &mut Vec<u32>,
     chunks: &mut Vec<Chunk>,
     places: &mut Vec<usize>,
     place: usize,
 ) -> Result<(), NoMemory>
     requires place { place < vec_len chunks.old }
-    requires grouped { AreGrouped (get nat_cmp groups.old) chunks.old.items places.old.items }
-    ensures grouped { AreGrouped (get nat_cmp groups.new) chunks.new.items places.new.items }
+    requires grouped { AreGrouped (group_in groups.old.items) chunks.old.items places.old.items }
+    ensures grouped { AreGrouped (group_in groups.new.items) chunks.new.items places.new.items }
     ensures joined { joined chunks.new.items ≡ joined chunks.old.items }
     ensures as_many { vec_len chunks.old ≤ vec_len chunks.new }
 {
@@ -86,13 +84,13 @@ pub fn split(
 ///
 /// # Errors
 ///
-/// `NoMemory` if allocation fails; nothing is changed.
+/// `NoMemory` if allocation fails or if there would be 2^32 groups; nothing is changed.
 ///
 /// # Complexity
 ///
-/// O(c + m log n) with `c` chunks, `n` elements and `m` that move.
+/// O(c + m) with `c` chunks and `m` elements that move.
 pub fn split_at(
-    groups: &mut BTreeMap<u32, usize>,
+    groups: &mut Vec<u32>,
     chunks: &mut Vec<Chunk>,
     places: &mut Vec<usize>,
     place: usize,
@@ -100,15 +98,15 @@ pub fn split_at(
 ) -> Result<(), NoMemory>
     requires place { place < vec_len chunks.old }
     requires keep { keep ≤ length (chunk_at chunks.old.items place).elements }
-    requires grouped { AreGrouped (get nat_cmp groups.old) chunks.old.items places.old.items }
-    ensures grouped { AreGrouped (get nat_cmp groups.new) chunks.new.items places.new.items }
+    requires grouped { AreGrouped (group_in groups.old.items) chunks.old.items places.old.items }
+    ensures grouped { AreGrouped (group_in groups.new.items) chunks.new.items places.new.items }
     ensures joined { joined chunks.new.items ≡ joined chunks.old.items }
     ensures as_many { vec_len chunks.old ≤ vec_len chunks.new }
 {
     places.reserve(1)?;
     chunks.reserve(1)?;
     let at = place + 1;
-    let group = places.len();
+    let group = next_index(places.len())?;
     let right = chunks[place].split_off(keep, group)?;
     move_to(groups, right.elements(), group);
     raise(places, at);
@@ -121,19 +119,14 @@ pub fn split_at(
 ///
 /// # Complexity
 ///
-/// O(k (log n + c)) for `k` of `n` elements, with `c` in one chunk.
-pub fn remove_all(
-    groups: &BTreeMap<u32, usize>,
-    chunks: &mut Vec<Chunk>,
-    places: &Vec<usize>,
-    elements: &[u32],
-)
-    requires grouped { AreGrouped (get nat_cmp groups.now) chunks.old.items places.now.items }
+/// O(k c) for `k` elements, with `c` in one chunk.
+pub fn remove_all(groups: &Vec<u32>, chunks: &mut Vec<Chunk>, places: &Vec<usize>, elements: &[u32])
+    requires grouped { AreGrouped (group_in groups.now.items) chunks.old.items places.now.items }
     requires known { (x : ℕ) → Contains elements.now x → Contains (joined chunks.old.items) x }
     ensures { AreRemoved elements.now chunks.old.items chunks.new.items }
 {
     for element in elements {
-        let place = places[groups[element]];
+        let place = places[group_of(groups, *element)];
         chunks[place].remove(*element);
     }
 }
@@ -142,7 +135,7 @@ pub fn remove_all(
 ///
 /// # Errors
 ///
-/// `NoMemory` if allocation fails.
+/// `NoMemory` if allocation fails or if there would be 2^32 groups.
 ///
 /// # Complexity
 ///
@@ -156,7 +149,7 @@ pub fn packed(alloc: Global, elements: &[u32]) -> Result<(Vec<Chunk>, Vec<usize>
     while done < elements.len() {
         let more = (elements.len() - done).min(SPREAD);
         let part = elements[done..done + more].to_vec(alloc)?;
-        let mut chunk = Chunk::new(alloc, chunks.len());
+        let mut chunk = Chunk::new(alloc, next_index(chunks.len())?);
         chunk.replace(part);
         places.push(chunks.len())?;
         chunks.push(chunk)?;

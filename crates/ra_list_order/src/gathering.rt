@@ -24,7 +24,7 @@ use std::collections::BTreeMap;
 ///
 /// # Complexity
 ///
-/// O(k (log n + c)) with `n` elements, `c` of them in one chunk, and `k` elements that move and edges that are tested.
+/// O(k (log k + c)) with `c` elements in one chunk, and `k` elements that move and edges that are tested.
 pub fn can_be_done(
     alloc: Global,
     order: &Sequence,

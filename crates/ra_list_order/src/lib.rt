@@ -13,6 +13,7 @@ mod edge_pool;
 mod gathering;
 mod groups;
 mod list_order;
+mod numbers;
 mod parts;
 mod search;
 mod sequence;

@@ -17,7 +17,8 @@ use ra_labels::{Edge, NoMemory};
 use std::alloc::Global;
 use std::marker::Model;
 
-/// The kept order: elements in an order that extends the edges. Any `u32` can be an element.
+/// The kept order: elements in an order that extends the edges. Elements are numbers, and memory is O(m + e) with the
+/// greatest element `m` and `e` edges.
 #[derive(Drop)]
 pub struct ListOrder {
     /// The elements in order.
@@ -65,7 +66,7 @@ impl ListOrder {
     ///
     /// # Complexity
     ///
-    /// O(log n) with `n` elements.
+    /// O(1).
     pub fn contains(&self, element: u32) -> bool
         // The result is `true` exactly if the element is in the order.
         ensures { IsTrue result ↔ Contains self.now.order element }
@@ -118,12 +119,13 @@ impl ListOrder {
     ///
     /// # Errors
     ///
-    /// `NoMemory` if allocation fails; nothing is changed.
+    /// `NoMemory` if allocation fails or if there would be 2^32 groups of elements; nothing is changed.
     ///
     /// # Complexity
     ///
-    /// O(log n + c) with `n` elements, `c` of them in the chunk of the neighbour, which are at most 128. Once in about
-    /// 64 insertions a full chunk is split, which takes O(n / 64) more.
+    /// O(c), amortized, with `c` elements in the chunk of the neighbour, which are at most 128. Once in about 64
+    /// insertions a full chunk is split, which takes O(n / 64) more with `n` elements. An element that is greater than
+    /// each earlier one by `d` takes O(d) more.
     pub fn put(
         &mut self,
         element: u32,
@@ -156,13 +158,13 @@ impl ListOrder {
     ///
     /// # Errors
     ///
-    /// `NoMemory` if allocation fails; nothing is changed.
+    /// `NoMemory` if allocation fails or if there would be 2^32 edges; nothing is changed.
     ///
     /// # Complexity
     ///
-    /// With `n` elements and edges, O(log n) if `before` is already before `after`. Otherwise O(s (log n + c)): `c` is
-    /// the number of elements in one chunk, at most 128, and `s` that of the edges that the search walks, O(√m) of `m`
-    /// edges, amortized. An edge that closes a cycle takes O(n log n).
+    /// With `n` elements and edges, O(log n + c) if `before` is already before `after`: `c` is that of the elements in
+    /// one chunk, at most 128. Otherwise O(s (log n + c)): `s` is the number of edges that the search walks, O(√m) of
+    /// `m` edges, amortized. An edge that closes a cycle takes O(n log n).
     pub fn add(
         &mut self,
         alloc: Global,

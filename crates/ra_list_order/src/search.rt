@@ -94,8 +94,7 @@ impl Side {
 ///
 /// # Complexity
 ///
-/// O(s (log n + c)) with `n` elements, `c` of them in one chunk, and `s` edges that are walked: O(√m) of `m` edges,
-/// amortized.
+/// O(s (log s + c)) with `c` elements in one chunk, and `s` edges that are walked: O(√m) of `m` edges, amortized.
 pub fn search(
     alloc: Global,
     order: &Sequence,

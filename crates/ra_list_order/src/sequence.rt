@@ -12,7 +12,8 @@ ghost use Rattle.ra_list_order.specs.Chunks.{chunk_at, joined, IsInsertedAt, IsS
 use crate::chunk::{Chunk, MOST_IN_CHUNK};
 use crate::chunks::{SPREAD, copied, packed, refill, remove_all, split, split_at};
 use crate::cut::{Spot, gathered};
-use crate::groups::{move_to, move_to_chunks};
+use crate::groups::{group_of, has_group, move_to, move_to_chunks};
+use crate::numbers::{extend_to, next_index, set_number};
 use crate::parts::{is_before, position_of};
 use ra_labels::NoMemory;
 use std::alloc::Global;
@@ -31,8 +32,10 @@ pub struct Span {
 /// Distinct elements in an order. An insertion moves only elements of its chunk.
 #[derive(Drop)]
 pub struct Sequence {
-    /// The group of each element, which the elements of its chunk share.
-    groups: BTreeMap<u32, usize>,
+    /// For each element, the group that the elements of its chunk share, plus one, or 0 if it is not in the sequence.
+    groups: Vec<u32>,
+    /// The number of elements.
+    len: usize,
     /// The chunks in order.
     chunks: Vec<Chunk>,
     /// For each group, the index of its chunk.
@@ -41,15 +44,13 @@ pub struct Sequence {
 
 impl Model for Sequence {
     ghost use Rattle.std.specs.Prelude.{List};
-    ghost use Rattle.std.specs.BTreeMap.{get};
-    ghost use Rattle.std.specs.Ordering.{nat_cmp};
-    ghost use Rattle.ra_list_order.specs.Chunks.{Chunk, AreGrouped};
+    ghost use Rattle.ra_list_order.specs.Chunks.{Chunk, AreGrouped, group_in};
 
     ghost Value = { List Chunk };
 
     ghost view = { λ a. a.chunks.items };
 
-    ghost invariant = { λ a. AreGrouped (get nat_cmp a.groups) a.chunks.items a.places.items };
+    ghost invariant = { λ a. AreGrouped (group_in a.groups.items) a.chunks.items a.places.items };
 }
 
 impl Sequence {
@@ -58,7 +59,8 @@ impl Sequence {
         ensures { result ≡ [] }
     {
         Sequence {
-            groups: BTreeMap::new(alloc),
+            groups: Vec::new(alloc),
+            len: 0,
             chunks: Vec::new(alloc),
             places: Vec::new(alloc),
         }
@@ -75,11 +77,11 @@ impl Sequence {
     ///
     /// # Complexity
     ///
-    /// O(log n) with `n` elements.
+    /// O(1).
     pub fn contains(&self, element: u32) -> bool
         ensures { IsTrue result ↔ Contains (joined self.now) element }
     {
-        self.groups.contains_key(&element)
+        has_group(&self.groups, element)
     }
 
     /// Returns the elements of a range of chunks, in order.
@@ -103,7 +105,7 @@ impl Sequence {
     ///
     /// # Complexity
     ///
-    /// O(log n + c) with `n` elements, `c` of them in one chunk.
+    /// O(c) with `c` elements in one chunk.
     pub fn span(&self, one: u32, other: u32) -> Option<Span>
         requires one { Contains (joined self.now) one }
         requires other { Contains (joined self.now) other }
@@ -125,7 +127,7 @@ impl Sequence {
     ///
     /// # Complexity
     ///
-    /// O(k log n) with `n` elements, `k` of which are overwritten.
+    /// O(k) with `k` elements that are overwritten.
     pub fn overwrite(&mut self, span: Span, elements: &[u32])
         requires ordered { span.first ≤ span.end }
         requires within { span.end ≤ length self.old }
@@ -145,7 +147,8 @@ impl Sequence {
     ///
     /// # Complexity
     ///
-    /// O(log n + c) with `n` elements, `c` of them in one chunk. If that chunk is full, it is split first.
+    /// O(c) with `c` elements in one chunk, amortized. If that chunk is full, it is split first. An
+    /// element that is greater than each earlier one by `d` takes O(d) more.
     pub fn insert_behind(&mut self, left: u32, element: u32) -> Result<(), NoMemory>
         requires left { Contains (joined self.old) left }
         requires new { ¬ Contains (joined self.old) element }
@@ -204,7 +207,7 @@ impl Sequence {
     ///
     /// # Complexity
     ///
-    /// O(log n + c) with `n` elements, `c` of them in one chunk.
+    /// O(c) with `c` elements in one chunk.
     pub fn find(&self, element: u32) -> Option<Spot>
         ensures { IfSome result (λ spot. IsAt self.now element spot.chunk spot.index) }
     {
@@ -260,7 +263,7 @@ impl Sequence {
     ///
     /// # Complexity
     ///
-    /// O(k (log n + c)) with `n` elements, `c` of them in one chunk, and `k` that are moved. If the chunk that is cut
+    /// O(k (log k + c)) with `n` elements, `c` of them in one chunk, and `k` that are moved. If the chunk that is cut
     /// gets too long, it is split, which takes O(n / 64) more for each 96 elements that are moved.
     pub fn gather(
         &mut self,
@@ -290,7 +293,7 @@ impl Sequence {
         let group = self.chunks[cut.chunk].group();
         move_to(&mut self.groups, moved, group);
         self.spread(cut.chunk);
-        if self.chunks.len() / 2 > self.groups.len() / 64 + 8 {
+        if self.chunks.len() / 2 > self.len / 64 + 8 {
             self.pack(alloc);
         }
         Ok(())
@@ -342,8 +345,7 @@ impl Sequence {
         ensures within { result < length self.now }
         ensures there { Contains (chunk_at self.now result).elements element }
     {
-        let group = self.groups[&element];
-        self.places[group]
+        self.places[group_of(&self.groups, element)]
     }
 
     // Splits the chunk at the index if it is full.
@@ -365,7 +367,7 @@ impl Sequence {
     {
         self.places.reserve(1)?;
         self.chunks.reserve(1)?;
-        let chunk = Chunk::new(*self.chunks.allocator(), self.places.len());
+        let chunk = Chunk::new(*self.chunks.allocator(), next_index(self.places.len())?);
         self.places.push_reserved(self.chunks.len());
         self.chunks.push_reserved(chunk);
         Ok(())
@@ -380,9 +382,11 @@ impl Sequence {
         ensures failed { OnErr result (joined self.new ≡ joined self.old) }
     {
         self.chunks[place].reserve()?;
+        extend_to(&mut self.groups, element)?;
         let group = self.chunks[place].group();
-        self.groups.insert(element, group)?;
+        set_number(&mut self.groups, element, group + 1);
         self.chunks[place].insert(position, element);
+        self.len = self.len.saturating_add(1);
         Ok(())
     }
 }

@@ -280,6 +280,31 @@ fn keeps_earliest_edges(rt: HostRuntime) -> Result<(), Fail> {
     Ok(())
 }
 
+/// An element that is much greater than those before it.
+const FAR: u32 = 100_000;
+
+// The arrays end behind the greatest element. What is beyond them or between two elements is not in the order and has
+// no edge.
+#[test]
+fn keeps_elements_far_apart(rt: HostRuntime) -> Result<(), Fail> {
+    let alloc = rt.alloc();
+    let mut order = ListOrder::new(alloc);
+    assert!(rt; !order.contains(0) && !order.has_edge(0, u32::MAX));
+    put_behind(&rt, &mut order, 3, None)?;
+    assert!(rt; !order.contains(FAR) && !order.contains(u32::MAX));
+    put_behind(&rt, &mut order, FAR, Some(3))?;
+    put_behind(&rt, &mut order, 2, Some(FAR))?;
+    assert!(rt; order.contains(FAR));
+    assert!(rt; !order.contains(FAR - 1) && !order.contains(FAR + 1));
+    assert!(rt; add(&rt, alloc, &mut order, edge(FAR, 3, 0))?.is_none());
+    assert!(rt; order.has_edge(FAR, 3) && !order.has_edge(3, FAR));
+    assert!(rt; !order.has_edge(FAR, FAR + 1) && !order.has_edge(FAR + 1, 3));
+    assert!(rt; add(&rt, alloc, &mut order, edge(2, FAR, 1))?.is_none());
+    assert!(rt; add(&rt, alloc, &mut order, edge(3, 2, 2))?.is_some());
+    assert_eq!(rt; order.elements(alloc)?.as_slice(), [2, FAR, 3].as_slice());
+    Ok(())
+}
+
 fn order_of_many(rt: &impl Abort, alloc: Global) -> Result<ListOrder, NoMemory> {
     let mut order = ListOrder::new(alloc);
     put_behind(rt, &mut order, 0, None)?;
@@ -403,6 +428,9 @@ fn add_again(
     add(rt, alloc, order, edge)
 }
 
+/// An element for which each array has to grow.
+const GROWN: u32 = 5000;
+
 // `rt try --test --fail-alloc N` lets the allocation N fail. The call that asks for it changes nothing.
 #[test]
 fn changes_nothing_if_an_allocation_fails(rt: HostRuntime) -> Result<(), Fail> {
@@ -423,14 +451,18 @@ fn changes_nothing_if_an_allocation_fails(rt: HostRuntime) -> Result<(), Fail> {
             Some(element - 1),
         )?;
     }
-    for element in 132..136 {
+    for element in 132..135 {
         put_again(&rt, alloc, &mut order, &mut model, element, Some(5))?;
     }
+    put_again(&rt, alloc, &mut order, &mut model, GROWN, Some(5))?;
     assert_eq!(rt; elements_of(alloc, &order)?.as_slice(), model.as_slice());
     assert!(rt; add_again(&rt, alloc, &mut order, edge(0, 131, 0))?.is_none());
     assert!(rt; add_again(&rt, alloc, &mut order, edge(131, 3, 1))?.is_none());
     assert!(rt; add_again(&rt, alloc, &mut order, edge(3, 4, 2))?.is_none());
     assert!(rt; add_again(&rt, alloc, &mut order, edge(4, 0, 3))?.is_some());
+    assert!(rt; add_again(&rt, alloc, &mut order, edge(GROWN, 4, 4))?.is_none());
+    assert!(rt; add_again(&rt, alloc, &mut order, edge(5, GROWN, 5))?.is_none());
+    assert!(rt; add_again(&rt, alloc, &mut order, edge(4, 5, 6))?.is_some());
     assert_eq!(rt; elements_of(alloc, &order)?.len(), model.len());
     Ok(())
 }

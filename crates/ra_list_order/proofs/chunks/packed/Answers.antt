@@ -15,6 +15,6 @@ loop-done-preserved c =
           c.loop-done.invariant.packed (omega arith) c.in_ok-push-2.ensures.items
           (c.in_ok-push.ensures.items ∙ ap (λ n. c.loop-done.places.items ++ n ∷ [])
           (c.len-in-loop-done.ensures ∙ c.loop-done.chunks.ok.0))
-          (c.replace.ensures.group ∙ c.new-chunk.ensures.group ∙ c.len.ensures ∙ c.loop-done.chunks.ok.0)
+          (c.replace.ensures.group ∙ c.new-chunk.ensures.group ∙ c.in_ok-next_index.ensures.index ∙ c.len.ensures ∙ c.loop-done.chunks.ok.0)
           (c.replace.ensures.elements ∙ c.in_ok-part.ensures.items_if_clones_equal (λ x y same. same));
     }

@@ -3,7 +3,7 @@ use Rattle.std.specs.BTreeMap.{get}
 use Rattle.std.specs.Ordering.{nat_cmp}
 use Rattle.std.proofs.lemmas.List.{take_all}
 use Rattle.ra_labels.specs.Edges.{EachOnce}
-use Rattle.ra_list_order.proofs.EdgePools.{pointed}
+use Rattle.ra_list_order.proofs.Pointed.{pointed}
 use Rattle.ra_list_order.proofs.Indexes.{index_more, once_more, none_of}
 use Rattle.ra_list_order.proofs.cut.index_of.Goals as goal
 

@@ -1,9 +1,8 @@
 use Rattle.std.proofs.Common.{◌≡◌, ◌<◌, ◌-◌, ◌++◌, ◌∷◌, [], length, get_or, subst, ap, ◌∙◌, arith}
-use Rattle.std.specs.BTreeMap.{get}
-use Rattle.std.specs.Ordering.{nat_cmp}
 use Rattle.std.proofs.lemmas.List.{length-map}
 use Rattle.ra_labels.specs.declared.edge.Edge.{Edge}
 use Rattle.ra_list_order.specs.EdgePool.{no_edge, flipped}
+use Rattle.ra_list_order.specs.Numbers.{number_in}
 use Rattle.ra_list_order.specs.Sweep.{PushesEdgesInto}
 use Rattle.ra_list_order.proofs.EdgePools.{walking_none, walking_falls}
 use Rattle.ra_list_order.proofs.EdgesInto.{into_within, into_more, into_done}
@@ -11,7 +10,7 @@ use Rattle.ra_list_order.proofs.Members.{read_at}
 use Rattle.ra_list_order.proofs.edge_pool.EdgePool.push_into.Goals as goal
 
 pub loop-at-init : goal.loop-at-init
-loop-at-init c = walking_none _ _ _ _ _ _ c.self.invariant.linked_into c.number_of-at.ensures
+loop-at-init c = walking_none _ _ _ _ _ _ c.self.invariant.linked_into c.number_at-at.ensures
 
 within : (c : goal.After-row_known-1) → c.loop-at.at - 1 < length c.self.inside.edges.items
 within c = into_within _ _ _ _ _ c.loop-at.invariant c.loop-at-test.true
@@ -22,30 +21,30 @@ index-requires c =
     let long = c.self.inside.edges.ok.0 in
     omega (arith, low, long)
 
-pub index-at-requires : goal.index-at-requires
-index-at-requires c =
+pub index-requires-in-loop-at : goal.index-requires-in-loop-at
+index-requires-in-loop-at c =
     let low = into_within _ _ _ _ _ c.loop-at.invariant c.loop-at-test.true in
     let long = c.self.inside.links_into.ok.0 in
     let many = c.self.invariant.linked_into.as_many in
     let size = length-map c.self.inside.edges.items flipped in
     omega (arith, low, long, many, size)
 
-next : (c : goal.After-row_known-1) → c.index-at.result.now ≡ get_or c.self.inside.links_into.items (c.loop-at.at - 1) 0
+next : (c : goal.After-row_known-1) → c.index-in-loop-at.result.now ≡ get_or c.self.inside.links_into.items (c.loop-at.at - 1) 0
 next c =
     let low = within c in
     let many = c.self.invariant.linked_into.as_many in
     let size = length-map c.self.inside.edges.items flipped in
     let below : c.loop-at.at - 1 < length c.self.inside.links_into.items = omega (arith, low, many, size) in
-    read_at c.self.inside.links_into.items (c.loop-at.at - 1) 0 _ below c.index-at.ensures
+    read_at c.self.inside.links_into.items (c.loop-at.at - 1) 0 _ below c.index-in-loop-at.ensures
 
 pub loop-at-smaller : goal.loop-at-smaller
 loop-at-smaller c =
-    walking_falls (get nat_cmp c.self.inside.lasts_into) _ _ _ _ _ _ _ c.self.invariant.linked_into c.loop-at.invariant
+    walking_falls (number_in c.self.inside.lasts_into.items) _ _ _ _ _ _ _ c.self.invariant.linked_into c.loop-at.invariant
     c.loop-at-test.true (next c)
 
 pub loop-at-preserved : goal.loop-at-preserved
 loop-at-preserved c =
-    into_more (get nat_cmp c.self.inside.lasts_into) _ _ _ _ _ _ _ _ c.self.invariant.linked_into c.loop-at.invariant
+    into_more (number_in c.self.inside.lasts_into.items) _ _ _ _ _ _ _ _ c.self.invariant.linked_into c.loop-at.invariant
     c.loop-at-test.true
     (c.in_ok-push.ensures.items ∙ ap (λ (e : Edge). c.loop-at.walked.items ++ e ∷ [])
     (read_at _ _ no_edge _ (within c) c.index.ensures)) (next c)

@@ -1,10 +1,8 @@
 use Rattle.std.proofs.Common.{◌≤◌, ◌∙◌, sym, ap, subst, length}
-use Rattle.std.specs.BTreeMap.{get}
-use Rattle.std.specs.Ordering.{nat_cmp}
 use Rattle.std.specs.List.{between}
 use Rattle.std.specs.List.Sorted.{IsPermutation}
 use Rattle.std.proofs.lemmas.List.Sorted.{length_permutation}
-use Rattle.ra_list_order.specs.Chunks.{joined, AreGrouped}
+use Rattle.ra_list_order.specs.Chunks.{joined, AreGrouped, group_in}
 use Rattle.ra_list_order.proofs.Spans.{read_once, read_known, read_grouped}
 use Rattle.ra_list_order.proofs.sequence.Sequence.overwrite.Goals as goal
 
@@ -19,7 +17,7 @@ pub move_to_chunks-requires-clause-once : goal.move_to_chunks-requires-clause-on
 move_to_chunks-requires-clause-once c =
     let i = c.args.span.first in
     let j = c.args.span.end in
-    read_once (get nat_cmp c.self.inside.groups) c.self.inside.chunks.items c.deref_mut.result.now c.refill.new.chunks
+    read_once (group_in c.self.inside.groups.items) c.self.inside.chunks.items c.deref_mut.result.now c.refill.new.chunks
     c.deref.result.now c.self.inside.places.items i j c.self.inside.chunks.len c.args.elements.now c.requires.ordered
     (subst (λ cs. j ≤ length cs) (sym c.self.view_is) c.requires.within) c.self.invariant
     (subst (λ cs. IsPermutation (joined (between i j cs)) c.args.elements.now) (sym c.self.view_is) c.requires.same)
@@ -30,7 +28,7 @@ pub move_to_chunks-requires-clause-known : goal.move_to_chunks-requires-clause-k
 move_to_chunks-requires-clause-known c =
     let i = c.args.span.first in
     let j = c.args.span.end in
-    read_known (get nat_cmp c.self.inside.groups) c.self.inside.chunks.items c.deref_mut.result.now c.refill.new.chunks
+    read_known (group_in c.self.inside.groups.items) c.self.inside.chunks.items c.deref_mut.result.now c.refill.new.chunks
     c.deref.result.now c.self.inside.places.items i j c.self.inside.chunks.len c.args.elements.now c.requires.ordered
     (subst (λ cs. j ≤ length cs) (sym c.self.view_is) c.requires.within) c.self.invariant
     (subst (λ cs. IsPermutation (joined (between i j cs)) c.args.elements.now) (sym c.self.view_is) c.requires.same)
@@ -41,11 +39,11 @@ pub invariant_of-self : goal.invariant_of-self
 invariant_of-self c =
     let i = c.args.span.first in
     let j = c.args.span.end in
-    subst (λ cs. AreGrouped (get nat_cmp c.move_to_chunks.new.groups) cs c.self.inside.places.items)
+    subst (λ cs. AreGrouped (group_in c.move_to_chunks.new.groups.items) cs c.self.inside.places.items)
     c.deref.ensures.value
-    (read_grouped (get nat_cmp c.self.inside.groups) c.self.inside.chunks.items c.deref_mut.result.now
+    (read_grouped (group_in c.self.inside.groups.items) c.self.inside.chunks.items c.deref_mut.result.now
     c.refill.new.chunks c.deref.result.now c.self.inside.places.items i j c.self.inside.chunks.len c.args.elements.now
     c.requires.ordered (subst (λ cs. j ≤ length cs) (sym c.self.view_is) c.requires.within) c.self.invariant
     (subst (λ cs. IsPermutation (joined (between i j cs)) c.args.elements.now) (sym c.self.view_is) c.requires.same)
     c.deref_mut.ensures.value c.self.inside.chunks.ok.0 c.refill.ensures.elements c.refill.ensures.groups
-    c.deref.ensures.value (get nat_cmp c.move_to_chunks.new.groups) c.move_to_chunks.ensures)
+    c.deref.ensures.value (group_in c.move_to_chunks.new.groups.items) c.move_to_chunks.ensures)

@@ -1,7 +1,5 @@
 use Rattle.std.proofs.Common.{◌++◌, ◌∷◌, [], ◌∙◌, ap, sym, subst, length}
-use Rattle.std.specs.BTreeMap.{get}
-use Rattle.std.specs.Ordering.{nat_cmp}
-use Rattle.ra_list_order.specs.Chunks.{AreGrouped}
+use Rattle.ra_list_order.specs.Chunks.{AreGrouped, group_in}
 use Rattle.ra_list_order.proofs.Spans.{grouped_pushed}
 use Rattle.ra_list_order.proofs.sequence.Sequence.push_chunk.Goals as goal
 
@@ -14,8 +12,8 @@ invariant_of-self-2 c =
     let places_is = c.push_reserved.ensures.items ∙ ap (λ ps. ps ++ c.len-2.result ∷ []) c.in_ok-reserve.ensures.items
     ∙ ap (λ n. places ++ n ∷ []) (c.len-2.ensures ∙ c.reserve-2.new.self.ok.0
     ∙ ap length c.in_ok-reserve-2.ensures.items) in
-    subst (λ ps. AreGrouped (get nat_cmp c.self.inside.groups) c.push_reserved-2.new.self.items ps) (sym places_is)
-    (subst (λ cs. AreGrouped (get nat_cmp c.self.inside.groups) cs (places ++ length chunks ∷ [])) (sym chunks_is)
-    (grouped_pushed (get nat_cmp c.self.inside.groups) chunks places c.new-chunk.result c.self.invariant
-    (c.new-chunk.ensures.group ∙ c.len.ensures ∙ c.reserve.new.self.ok.0 ∙ ap length c.in_ok-reserve.ensures.items)
+    subst (λ ps. AreGrouped (group_in c.self.inside.groups.items) c.push_reserved-2.new.self.items ps) (sym places_is)
+    (subst (λ cs. AreGrouped (group_in c.self.inside.groups.items) cs (places ++ length chunks ∷ [])) (sym chunks_is)
+    (grouped_pushed (group_in c.self.inside.groups.items) chunks places c.new-chunk.result c.self.invariant
+    (c.new-chunk.ensures.group ∙ c.in_ok-next_index.ensures.index ∙ c.len.ensures ∙ c.reserve.new.self.ok.0 ∙ ap length c.in_ok-reserve.ensures.items)
     c.new-chunk.ensures.elements))
