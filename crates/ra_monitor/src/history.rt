@@ -1,5 +1,5 @@
 //! The accepted commands in the form of data structures: here a command is accepted, rejected or answered.
-ghost use Rattle.std.specs.Prelude.{◌≡◌, ℕ, ◌+◌, ◌<◌, ◌≤◌, [], map, IfOk, OnErr, OnOk, Option, None};
+ghost use Rattle.std.specs.Prelude.{◌≡◌, ℕ, ◌+◌, ◌<◌, ◌≤◌, [], map, IfOk, OnErr, OnOk, MatchOption, Option, None};
 ghost use Rattle.ra_labels.specs.declared.operation.Op.{Op};
 ghost use Rattle.ra_labels.specs.Records.{Records, label_count, replica_count, next_label};
 ghost use Rattle.ra_labels.specs.Visibility.{has_delivered};
@@ -7,6 +7,8 @@ ghost use Rattle.ra_labels.specs.NamedOrder.{named_sequence};
 ghost use Rattle.ra_labels.specs.Fault.{fault_of};
 ghost use Rattle.ra_labels.specs.Answer.{no_reply, form_refusal, refusal_of, refusal_of_join, answer_to_accepted};
 ghost use Rattle.ra_labels.specs.HistorySoFar.{History, history_with, replicas_of, IsAccepted, NextOperation, next_operation, operate};
+ghost use Rattle.ra_labels.specs.declared.kind.Kind.TheVariants as kinds;
+ghost use Rattle.ra_witness.specs.ListOrder.{Explains};
 ghost use Rattle.ra_witness.specs.Sequence.{ref_of};
 ghost use Rattle.ra_witness.specs.Witness.{IsWitnessOf};
 ghost use Rattle.ra_monitor.specs.Order.{IsOrderOf};
@@ -90,6 +92,23 @@ impl TrackedHistory {
             parts.items ≡ map ref_of (named_sequence past.kind (before_fault past).records)) }
     {
         self.witness.sequence()
+    }
+
+    /// Returns the elements of a list, removed ones too, in the kept order; `None` for another kind.
+    ///
+    /// # Errors
+    ///
+    /// `NoMemory` if allocation fails.
+    ///
+    /// # Complexity
+    ///
+    /// O(n) with `n` elements.
+    pub fn list_order(&self) -> Result<Option<Vec<u32>>, NoMemory>
+        ensures { (past : History) → Represents self.now past → IfOk result (λ found.
+            MatchOption found (¬ (past.kind ≡ kinds.List))
+            (λ order. (past.kind ≡ kinds.List) × Explains order.items (before_fault past).records)) }
+    {
+        self.witness.list_order()
     }
 
     /// Answers a command as the single-threaded monitor does. Its operation is moved into a label and back, so no list

@@ -1,5 +1,5 @@
 //! The single-threaded monitor: a log, and the representation of its history.
-ghost use Rattle.std.specs.Prelude.{◌≡◌, ℕ, ◌+◌, ◌-◌, ◌<◌, ◌≤◌, ◌++◌, ◌∷◌, ◌↔◌, [], length, map, min, cond, vec_len, vec_capacity, IsTrue, IfSome, IfOk, IsOk, OnOk, IsErrOf};
+ghost use Rattle.std.specs.Prelude.{◌≡◌, ℕ, ◌+◌, ◌-◌, ◌<◌, ◌≤◌, ◌++◌, ◌∷◌, ◌↔◌, [], length, map, min, cond, vec_len, vec_capacity, IsTrue, IfSome, IfOk, IsOk, OnOk, IsErrOf, MatchOption};
 ghost use Rattle.ra_labels.specs.Records.{label_count, replica_count};
 ghost use Rattle.ra_labels.specs.Visibility.{has_delivered};
 ghost use Rattle.ra_labels.specs.Linearization.{IsRaLinearization};
@@ -7,6 +7,8 @@ ghost use Rattle.ra_labels.specs.NamedOrder.{named_sequence};
 ghost use Rattle.ra_theorems.specs.AnyOrder.{is_of_any_order};
 ghost use Rattle.ra_monitor.specs.Limits.{AreReplicas, IsLimit};
 ghost use Rattle.ra_journal.specs.Log.{last_ticket_of};
+ghost use Rattle.ra_labels.specs.declared.kind.Kind.TheVariants as kinds;
+ghost use Rattle.ra_witness.specs.ListOrder.{Explains};
 ghost use Rattle.ra_witness.specs.Sequence.{ref_of};
 ghost use Rattle.ra_monitor.specs.Replies.{is_refused};
 ghost use Rattle.ra_monitor.specs.Steps.{IsStep};
@@ -233,6 +235,26 @@ impl Monitor {
             (IsRaLinearization self.now.setup.kind records (named_sequence self.now.setup.kind records)) }
     {
         self.history.sequence()
+    }
+
+    /// Returns the elements of a list, removed ones too, in one order that explains the labels before a fault, or all
+    /// labels if there is none. Returns `None` for another kind. Other orders may explain them too.
+    ///
+    /// # Errors
+    ///
+    /// `NoMemory` if allocation fails.
+    ///
+    /// # Complexity
+    ///
+    /// O(n), where `n` is the number of elements.
+    pub fn list_order(&self) -> Result<Option<Vec<u32>>, NoMemory>
+        // The result is an order exactly if the kind is a list. The order has exactly the elements that the labels
+        // before the fault insert, each once, and extends the edges that these labels require.
+        ensures explains { let records = records_before_fault_in self.now.setup self.now.log in
+            IfOk result (λ found. MatchOption found (¬ (self.now.setup.kind ≡ kinds.List))
+            (λ order. (self.now.setup.kind ≡ kinds.List) × Explains order.items records)) }
+    {
+        self.history.list_order()
     }
 
     /// Returns the summary of the log. Does not allocate.

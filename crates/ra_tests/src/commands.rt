@@ -165,6 +165,16 @@ pub fn sequence_of(rt: &impl Abort, monitor: &Monitor) -> Vec<PartRef> {
     panic!(rt; "no memory")
 }
 
+/// Returns the monitor's order of the elements of a list.
+pub fn list_order_of(rt: &impl Abort, monitor: &Monitor) -> Option<Vec<u32>> {
+    for _attempt in 0..ATTEMPTS {
+        if let Ok(order) = monitor.list_order() {
+            return order;
+        }
+    }
+    panic!(rt; "no memory")
+}
+
 /// Creates the list of these elements.
 pub fn elements_of(rt: &impl Abort, alloc: Global, list: &[u32]) -> Elements {
     for _attempt in 0..ATTEMPTS {

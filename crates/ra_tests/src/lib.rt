@@ -18,6 +18,8 @@ mod joins;
 #[cfg(test)]
 mod limits;
 #[cfg(test)]
+mod list_orders;
+#[cfg(test)]
 mod lists;
 #[cfg(test)]
 mod or_sets;
