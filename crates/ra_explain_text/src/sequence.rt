@@ -7,7 +7,7 @@ use ra_labels::NoMemory;
 use ra_monitor::{Half, Monitor};
 
 /// Appends a line for each part of the named sequence: the label, `whole`, `query` or `update`, and the number of the
-/// line with the label.
+/// line with the label. For a list, a last line has the elements in one order that explains the labels.
 pub fn put_sequence(out: &mut Vec<u8>, monitor: &Monitor) -> Result<(), NoMemory> {
     let places = Places::of(*out.allocator(), monitor)?;
     let parts = monitor.sequence()?;
@@ -19,7 +19,20 @@ pub fn put_sequence(out: &mut Vec<u8>, monitor: &Monitor) -> Result<(), NoMemory
         }
         put(out, "\n")?;
     }
-    Ok(())
+    match monitor.list_order()? {
+        Some(order) => put_order(out, &order),
+        None => Ok(()),
+    }
+}
+
+// Appends the line with the elements of a list, separated by commas, or `-` if there are none.
+fn put_order(out: &mut Vec<u8>, order: &[u32]) -> Result<(), NoMemory> {
+    put(out, "order ")?;
+    for (i, element) in order.iter().enumerate() {
+        put(out, if i > 0 { "," } else { "" })?;
+        put_number(out, *element)?;
+    }
+    put(out, if order.is_empty() { "-\n" } else { "\n" })
 }
 
 fn word(half: Half) -> &'static str {
