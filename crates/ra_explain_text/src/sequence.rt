@@ -3,6 +3,7 @@ use crate::layout::put;
 use crate::quotes::put_line_number;
 use ra_explain::Places;
 use ra_history_lines::number::put_number;
+use ra_history_writer::spelling::put_numbers;
 use ra_labels::NoMemory;
 use ra_monitor::{Half, Monitor};
 
@@ -19,20 +20,12 @@ pub fn put_sequence(out: &mut Vec<u8>, monitor: &Monitor) -> Result<(), NoMemory
         }
         put(out, "\n")?;
     }
-    match monitor.list_order()? {
-        Some(order) => put_order(out, &order),
-        None => Ok(()),
+    if let Some(order) = monitor.list_order()? {
+        put(out, "order ")?;
+        put_numbers(out, &order)?;
+        put(out, "\n")?;
     }
-}
-
-// Appends the line with the elements of a list, separated by commas, or `-` if there are none.
-fn put_order(out: &mut Vec<u8>, order: &[u32]) -> Result<(), NoMemory> {
-    put(out, "order ")?;
-    for (i, element) in order.iter().enumerate() {
-        put(out, if i > 0 { "," } else { "" })?;
-        put_number(out, *element)?;
-    }
-    put(out, if order.is_empty() { "-\n" } else { "\n" })
+    Ok(())
 }
 
 fn word(half: Half) -> &'static str {

@@ -176,8 +176,19 @@ fn put_list(out: &mut Vec<u8>, list: &Elements) -> Result<(), NoMemory>
     put_numbers(out, list.as_slice())
 }
 
-fn put_numbers(out: &mut Vec<u8>, numbers: &[u32]) -> Result<(), NoMemory>
+/// Appends the numbers, separated by commas, or `-` if there are none.
+///
+/// # Errors
+///
+/// `NoMemory` if allocation fails. Part of them may be appended.
+///
+/// # Complexity
+///
+/// O(n) for `n` numbers.
+pub fn put_numbers(out: &mut Vec<u8>, numbers: &[u32]) -> Result<(), NoMemory>
+    // If the call succeeds, the word of the list is appended.
     ensures put { OnOk result (out.new.items ≡ out.old.items ++ list_word numbers.now) }
+    // Each number fits 32 bits.
     ensures small { AllByRecursion IsSmall numbers.now }
 {
     match numbers.split_first() {

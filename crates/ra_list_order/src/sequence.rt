@@ -147,8 +147,8 @@ impl Sequence {
     ///
     /// # Complexity
     ///
-    /// O(c) with `c` elements in one chunk, amortized. If that chunk is full, it is split first. An
-    /// element that is greater than each earlier one by `d` takes O(d) more.
+    /// O(c) with `c` elements in one chunk, amortized. If that chunk is full, it is split first. An element that is
+    /// greater than each earlier one by `d` takes O(d) more.
     pub fn insert_behind(&mut self, left: u32, element: u32) -> Result<(), NoMemory>
         requires left { Contains (joined self.old) left }
         requires new { ¬ Contains (joined self.old) element }

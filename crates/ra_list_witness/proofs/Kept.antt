@@ -1,6 +1,8 @@
 -- The representation invariant after each operation.
 use Rattle.std.proofs.Common.{◌≡◌, ℕ, ◌-◌, ◌<◌, ◌≤◌, List, [], ◌∷◌, ◌++◌, length, take, set, sym, ap, ◌∙◌, subst, inl, inr, arith}
 use Rattle.std.specs.Prelude.{Contains, ◌==◌, ◌&&◌, if◌then◌else◌, Option, Some, None, Result, Ok, Err, IfOk, OnErr, MatchOption}
+use Rattle.std.specs.List.Sorted.{IsPermutation}
+use Rattle.std.proofs.lemmas.List.Sorted.{Contains-permutation}
 use Rattle.std.proofs.lemmas.Bool.{cases_eq, cond-true, cond-false, eq-eqb, ne_eqb}
 use Rattle.std.proofs.lemmas.List.{length-set, length_push, get_or-set_same, get_or-set_other, take_at}
 use Rattle.ra_labels.specs.declared.edge.Edge.{Edge}
@@ -33,7 +35,7 @@ kept_set elements elements' views order order' edges edges' at view kept there l
 }
 
 -- with the same views
-pub kept_views : (elements : List ℕ) (views : List View) (order order' : List ℕ) (edges edges' : List Edge)
+kept_views : (elements : List ℕ) (views : List View) (order order' : List ℕ) (edges edges' : List Edge)
     → ListWitnessKept elements views order edges → ((n : ℕ) → Contains order n → Contains order' n)
     → AreBetweenNumbers elements edges' → ((xs : List ℕ) → HasPairs edges xs → HasPairs edges' xs)
     → ListWitnessKept elements views order' edges'
@@ -155,7 +157,7 @@ marked_by_insert views at number view there shown = record {
 }
 
 -- the pairs that have edges after a call of `add_read` or `add_part`, whatever it returned
-pub grown : {T E : Type 0} (items : T → List Edge) (r : Result (Option T) E) (label : ℕ) (list : List ℕ)
+grown : {T E : Type 0} (items : T → List Edge) (r : Result (Option T) E) (label : ℕ) (list : List ℕ)
     (old new : List Edge)
     → IfOk r (λ found. MatchOption found (AddsPairs label list old new)
     (λ cycle. (new ≡ old) × IsCycle (with_pairs label list old) (items cycle))) → OnErr r (new ≡ old)
@@ -165,7 +167,7 @@ grown items (Ok (Some cycle)) label list old new answer failed xs has = subst (�
 grown items (Err e) label list old new answer failed xs has = subst (λ es. HasPairs es xs) (sym failed) has
 
 -- the ends of the edges after such a call
-pub between_after : {T E : Type 0} (items : T → List Edge) (r : Result (Option T) E) (elements : List ℕ) (label : ℕ)
+between_after : {T E : Type 0} (items : T → List Edge) (r : Result (Option T) E) (elements : List ℕ) (label : ℕ)
     (numbers : List ℕ) (old new : List Edge) → AreBetweenNumbers elements old
     → ((n : ℕ) → Contains numbers n → n < length elements)
     → IfOk r (λ found. MatchOption found (AddsPairs label numbers old new)
@@ -177,3 +179,16 @@ between_after items (Ok (Some cycle)) elements label numbers old new between bel
     subst (AreBetweenNumbers elements) (sym answer.0) between
 between_after items (Err e) elements label numbers old new between below answer failed =
     subst (AreBetweenNumbers elements) (sym failed) between
+
+-- the representation after such a call
+pub kept_by_pairs : {T E : Type 0} (items : T → List Edge) (r : Result (Option T) E) (elements : List ℕ) (views : List View)
+    (order order' : List ℕ) (edges edges' : List Edge) (label : ℕ) (numbers : List ℕ)
+    → ListWitnessKept elements views order edges → IsPermutation order order'
+    → ((n : ℕ) → Contains numbers n → n < length elements)
+    → IfOk r (λ found. MatchOption found (AddsPairs label numbers edges edges')
+    (λ cycle. (edges' ≡ edges) × IsCycle (with_pairs label numbers edges) (items cycle))) → OnErr r (edges' ≡ edges)
+    → ListWitnessKept elements views order' edges'
+kept_by_pairs items r elements views order order' edges edges' label numbers kept moved below answer failed =
+    kept_views elements views order order' edges edges' kept (λ n there. Contains-permutation order order' n moved there)
+    (between_after items r elements label numbers edges edges' kept.between below answer failed)
+    (grown items r label numbers edges edges' answer failed)

@@ -36,9 +36,15 @@ others_had last numbers places edges as_last pairs = record {
 }
 
 -- each of the numbers is that of an element
-pub numbers_within : (elements list numbers : List ℕ) (n : ℕ) → AreNumbersOf elements list numbers → Contains numbers n
+numbers_within : (elements list numbers : List ℕ) (n : ℕ) → AreNumbersOf elements list numbers → Contains numbers n
     → n < length elements
 numbers_within elements list numbers n are there =
     let (x, among, is) = from_where Some list (slice_get elements n)
     (subst (λ os. Contains os (slice_get elements n)) are (reached (slice_get elements) numbers n there)) in
     slice_get_within elements n x (sym is)
+
+-- the same of the elements that callers see
+pub within : (now inside numbers : List ℕ) → inside ≡ now → (list : List ℕ) × AreNumbersOf now list numbers → (n : ℕ)
+    → Contains numbers n → n < length inside
+within now inside numbers same (list, are) n there =
+    numbers_within inside list numbers n (subst (λ xs. AreNumbersOf xs list numbers) (sym same) are) there

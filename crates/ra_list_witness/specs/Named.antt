@@ -10,7 +10,7 @@ use Rattle.ra_labels.specs.Edges.{EachOnce}
 abbrev pub element_at : List ℕ → ℕ → ℕ
 element_at elements number = get_or elements number 0
 
--- the edge from the element with the one number to that with the other one
+-- the edge with the elements in place of their numbers
 abbrev pub named : List ℕ → Edge → Edge
 named elements edge = record {
   before = element_at elements edge.before;
@@ -18,14 +18,11 @@ named elements edge = record {
   label = edge.label;
 }
 
-abbrev pub no_edge : Edge
-no_edge = record { before = 0; after = 0; label = 0 }
-
--- the edges between the elements with these numbers
+-- the edges with the elements in place of their numbers
 abbrev pub all_named : List ℕ → List Edge → List Edge
 all_named elements edges = map (named elements) edges
 
--- the elements with these numbers, without the numbers that no element has
+-- the elements with these numbers, in this order; a number that no element has is left out
 abbrev pub elements_of : List ℕ → List ℕ → List ℕ
 elements_of elements numbers = filter_map (slice_get elements) numbers
 
@@ -34,7 +31,7 @@ abbrev pub AreBetweenNumbers : List ℕ → List Edge → Type 0
 AreBetweenNumbers elements edges = (edge : Edge) → Contains edges edge
     → (edge.before < length elements) × (edge.after < length elements)
 
--- holds if this is the number of a neighbour that an insertion names, and none is given if it names none
+-- holds if this is the number of the neighbour x; if x is 0, no neighbour is named, and there is no number
 abbrev pub IsNeighbor : List ℕ → ℕ → Option ℕ → Type 0
 IsNeighbor elements x None = x ≡ 0
 IsNeighbor elements x (Some n) = (¬ (x ≡ 0)) × (slice_get elements n ≡ Some x)

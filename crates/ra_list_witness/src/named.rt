@@ -38,7 +38,7 @@ fn number_of_neighbor(numbers: &ElementNumbers, neighbor: u32) -> Option<u32>
     }
 }
 
-/// Returns the elements with these numbers, without the numbers that no element has.
+/// Returns the elements with these numbers, in this order. A number that no element has is left out.
 ///
 /// # Errors
 ///

@@ -4,7 +4,8 @@ use Rattle.std.proofs.lemmas.Bool.{cases_eq}
 use Rattle.std.proofs.lemmas.Option.{unwrap_or-slice_get}
 use Rattle.std.proofs.lemmas.List.{length-set, length-map, get_or-map, get_or-set_same, get_or-set_other, ext_get_or, get_or_default}
 use Rattle.ra_labels.specs.declared.edge.Edge.{Edge}
-use Rattle.ra_list_witness.specs.Named.{element_at, named, all_named, no_edge}
+use Rattle.ra_list_order.specs.EdgePool.{no_edge}
+use Rattle.ra_list_witness.specs.Named.{element_at, named, all_named}
 use Rattle.ra_list_witness.proofs.named.name_edges.Goals as goal
 
 -- the edge at the index, which is not named yet

@@ -1,5 +1,6 @@
 use Rattle.std.proofs.Common.{◌≡◌, ℕ, ◌<◌, ◌≤◌, length, get_or}
-use Rattle.ra_list_witness.specs.Named.{named, no_edge}
+use Rattle.ra_list_order.specs.EdgePool.{no_edge}
+use Rattle.ra_list_witness.specs.Named.{named}
 use Rattle.ra_list_witness.proofs.named.name_edges.Given as goal
 
 -- the edges before the index are named, and the others are unchanged

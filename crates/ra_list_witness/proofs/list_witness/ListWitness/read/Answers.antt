@@ -1,32 +1,30 @@
 use Rattle.std.proofs.Common.{◌≡◌, ℕ, ◌<◌, List, length, sym, ap, ◌∙◌, subst, arith}
 use Rattle.std.specs.Prelude.{Contains}
 use Rattle.std.proofs.lemmas.List.{get_or_default}
-use Rattle.std.proofs.lemmas.List.Sorted.{Contains-permutation}
 use Rattle.ra_labels.specs.Edges.{IsCycle}
 use Rattle.ra_list_edges.specs.Pairs.{AddsPairs, HasEdgesBut, with_pairs}
 use Rattle.ra_list_replica.specs.Numbers.{AreNumbersOf}
 use Rattle.ra_list_replica.specs.Listing.{AreAsLast}
 use Rattle.ra_list_replica.specs.View.{mark_at}
 use Rattle.ra_list_witness.specs.Adjacent.{HasPairs}
-use Rattle.ra_list_witness.specs.ListWitness.{no_view, view_at}
+use Rattle.ra_list_witness.specs.ListWitness.{no_view, view_at, ListWitnessKept}
 use Rattle.ra_list_witness.specs.Named.{all_named}
 use Rattle.ra_list_witness.proofs.AdjacentPairs.{has_pairs}
-use Rattle.ra_list_witness.proofs.LastReads.{others_had, numbers_within}
-use Rattle.ra_list_witness.proofs.Kept.{kept_set, kept_views, between_after, grown}
+use Rattle.ra_list_witness.proofs.LastReads.{others_had, within}
+use Rattle.ra_list_witness.proofs.Kept.{kept_set, kept_by_pairs}
 use Rattle.ra_list_witness.proofs.NamedAnswers.{read_added, read_cycle}
 use Rattle.ra_list_witness.proofs.list_witness.ListWitness.read.Goals as goal
 
 -- the numbers that were read are those of elements
-within : (now inside : List ℕ) (numbers read : List ℕ) → inside ≡ now → read ≡ numbers
+read_within : (now inside numbers read : List ℕ) → inside ≡ now → read ≡ numbers
     → (list : List ℕ) × AreNumbersOf now list numbers → (n : ℕ) → Contains read n → n < length inside
-within now inside numbers read same is (list, are) n there =
-    numbers_within inside list numbers n (subst (λ xs. AreNumbersOf xs list numbers) (sym same) are)
-    (subst (λ xs. Contains xs n) is there)
+read_within now inside numbers read same is are n there =
+    within now inside numbers same are n (subst (λ xs. Contains xs n) is there)
 
 pub add_read-requires-clause-listed : goal.add_read-requires-clause-listed
 add_read-requires-clause-listed c = λ n there.
     c.self.invariant.ordered n
-    (within c.args.self.now.elements c.self.inside.numbers c.args.listed.numbers.items c.deref.result.now
+    (read_within c.args.self.now.elements c.self.inside.numbers c.args.listed.numbers.items c.deref.result.now
     (ap (λ v. v.elements) c.self.view_is) c.deref.ensures.value c.requires.numbers n there)
 
 pub add_read-requires-clause-others : goal.add_read-requires-clause-others
@@ -44,56 +42,46 @@ add_read-requires-clause-others c =
 pub invariant_of-self : goal.invariant_of-self
 invariant_of-self c =
     let inside = c.self.inside in
-    let old = inside.order in
     let new = c.add_read.new.order in
-    let below = within c.args.self.now.elements inside.numbers c.args.listed.numbers.items c.deref.result.now
+    let below = read_within c.args.self.now.elements inside.numbers c.args.listed.numbers.items c.deref.result.now
     (ap (λ v. v.elements) c.self.view_is) c.deref.ensures.value c.requires.numbers in
-    kept_views inside.numbers inside.views.items old.order new.order old.edges new.edges c.self.invariant
-    (λ n there. Contains-permutation old.order new.order n c.add_read.ensures.elements there)
-    (between_after (λ cycle. cycle.items) c.add_read.result inside.numbers c.args.label c.deref.result.now old.edges new.edges
-    c.self.invariant.between below c.add_read.ensures.answer c.add_read.ensures.failed)
-    (grown (λ cycle. cycle.items) c.add_read.result c.args.label c.deref.result.now old.edges new.edges
-    c.add_read.ensures.answer c.add_read.ensures.failed)
+    kept_by_pairs (λ cycle. cycle.items) c.add_read.result inside.numbers inside.views.items inside.order.order new.order
+    inside.order.edges new.edges c.args.label c.deref.result.now c.self.invariant c.add_read.ensures.elements below
+    c.add_read.ensures.answer c.add_read.ensures.failed
 
 pub invariant_of-self-in-None-1 : goal.invariant_of-self-in-None-1
 invariant_of-self-in-None-1 c =
     let inside = c.self.inside in
     let views = inside.views.items in
-    let old = inside.order in
     let new = c.add_read.new.order in
     let numbers = c.args.listed.numbers.items in
-    let below = within c.args.self.now.elements inside.numbers numbers c.deref.result.now
+    let below = read_within c.args.self.now.elements inside.numbers numbers c.deref.result.now
     (ap (λ v. v.elements) c.self.view_is) c.deref.ensures.value c.requires.numbers in
     let there = subst (λ vs. c.args.replica < length vs) (sym (ap (λ v. v.views) c.self.view_is)) c.requires.replica in
     let marks : c.keep.new.self.marks ≡ (view_at views c.args.replica).marks =
     c.keep.ensures.marks
     ∙ ap (λ v. v.marks) (c.index_mut.ensures.value ∙ get_or_default views c.args.replica _ no_view there) in
-    let adds : AddsPairs c.args.label c.deref.result.now old.edges new.edges =
+    let adds : AddsPairs c.args.label c.deref.result.now inside.order.edges new.edges =
     rw c.in-None.is at c.in_ok-add_read.ensures.answer in
-    kept_set inside.numbers inside.numbers views old.order new.order old.edges new.edges c.args.replica c.keep.new.self
-    c.self.invariant there (omega arith)
-    (λ n known. Contains-permutation old.order new.order n c.add_read.ensures.elements (c.self.invariant.ordered n known))
-    (between_after (λ cycle. cycle.items) c.add_read.result inside.numbers c.args.label c.deref.result.now old.edges new.edges
-    c.self.invariant.between below c.add_read.ensures.answer c.add_read.ensures.failed)
-    (grown (λ cycle. cycle.items) c.add_read.result c.args.label c.deref.result.now old.edges new.edges
-    c.add_read.ensures.answer c.add_read.ensures.failed)
-    (λ n past. ap (λ ms. mark_at ms n) marks ∙ c.self.invariant.beyond c.args.replica n past)
+    let kept : ListWitnessKept inside.numbers views new.order new.edges =
+    kept_by_pairs (λ cycle. cycle.items) c.add_read.result inside.numbers views inside.order.order new.order inside.order.edges
+    new.edges c.args.label c.deref.result.now c.self.invariant c.add_read.ensures.elements below c.add_read.ensures.answer
+    c.add_read.ensures.failed in
+    kept_set inside.numbers inside.numbers views new.order new.order new.edges new.edges c.args.replica c.keep.new.self kept
+    there (omega arith) kept.ordered kept.between (λ xs has. has)
+    (λ n past. ap (λ ms. mark_at ms n) marks ∙ kept.beyond c.args.replica n past)
     (subst (HasPairs new.edges) (c.deref.ensures.value ∙ sym c.keep.ensures.last)
     (has_pairs c.args.label c.deref.result.now new.edges adds.all))
 
 pub invariant_of-self-in-Some-1 : goal.invariant_of-self-in-Some-1
 invariant_of-self-in-Some-1 c =
     let inside = c.self.inside in
-    let old = inside.order in
     let new = c.add_read.new.order in
-    let below = within c.args.self.now.elements inside.numbers c.args.listed.numbers.items c.deref.result.now
+    let below = read_within c.args.self.now.elements inside.numbers c.args.listed.numbers.items c.deref.result.now
     (ap (λ v. v.elements) c.self.view_is) c.deref.ensures.value c.requires.numbers in
-    kept_views inside.numbers inside.views.items old.order new.order old.edges new.edges c.self.invariant
-    (λ n there. Contains-permutation old.order new.order n c.add_read.ensures.elements there)
-    (between_after (λ cycle. cycle.items) c.add_read.result inside.numbers c.args.label c.deref.result.now old.edges new.edges
-    c.self.invariant.between below c.add_read.ensures.answer c.add_read.ensures.failed)
-    (grown (λ cycle. cycle.items) c.add_read.result c.args.label c.deref.result.now old.edges new.edges
-    c.add_read.ensures.answer c.add_read.ensures.failed)
+    kept_by_pairs (λ cycle. cycle.items) c.add_read.result inside.numbers inside.views.items inside.order.order new.order
+    inside.order.edges new.edges c.args.label c.deref.result.now c.self.invariant c.add_read.ensures.elements below
+    c.add_read.ensures.answer c.add_read.ensures.failed
 
 pub returns-in-None-clause-edges : goal.returns-in-None-clause-edges
 returns-in-None-clause-edges c = λ list are.

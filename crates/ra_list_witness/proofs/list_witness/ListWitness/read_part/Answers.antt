@@ -1,51 +1,35 @@
 use Rattle.std.proofs.Common.{sym, ap, ◌∙◌, subst}
-use Rattle.std.proofs.lemmas.List.Sorted.{Contains-permutation}
 use Rattle.ra_labels.specs.Edges.{IsCycle}
 use Rattle.ra_list_edges.specs.Pairs.{AddsPairs, with_pairs}
 use Rattle.ra_list_replica.specs.Numbers.{AreNumbersOf}
 use Rattle.ra_list_witness.specs.Named.{all_named}
-use Rattle.ra_list_witness.proofs.LastReads.{numbers_within}
-use Rattle.ra_list_witness.proofs.Kept.{kept_views, between_after, grown}
+use Rattle.ra_list_witness.proofs.LastReads.{within}
+use Rattle.ra_list_witness.proofs.Kept.{kept_by_pairs}
 use Rattle.ra_list_witness.proofs.NamedAnswers.{read_added, read_cycle}
 use Rattle.ra_list_witness.proofs.list_witness.ListWitness.read_part.Goals as goal
 
 pub add_part-requires : goal.add_part-requires
 add_part-requires c = λ n there.
-    let (list, are) = c.requires in
-    let mine = subst (λ xs. AreNumbersOf xs list c.args.part.now) (sym (ap (λ v. v.elements) c.self.view_is)) are in
-    c.self.invariant.ordered n (numbers_within c.self.inside.numbers list c.args.part.now n mine there)
+    c.self.invariant.ordered n (within c.args.self.now.elements c.self.inside.numbers c.args.part.now
+    (ap (λ v. v.elements) c.self.view_is) c.requires n there)
 
 pub invariant_of-self : goal.invariant_of-self
 invariant_of-self c =
     let inside = c.self.inside in
-    let old = inside.order in
     let new = c.add_part.new.order in
-    let numbers = c.args.part.now in
-    let (list, are) = c.requires in
-    let mine = subst (λ xs. AreNumbersOf xs list numbers) (sym (ap (λ v. v.elements) c.self.view_is)) are in
-    kept_views inside.numbers inside.views.items old.order new.order old.edges new.edges c.self.invariant
-    (λ n there. Contains-permutation old.order new.order n c.add_part.ensures.elements there)
-    (between_after (λ cycle. cycle.items) c.add_part.result inside.numbers c.args.label numbers old.edges new.edges
-    c.self.invariant.between (λ n there. numbers_within inside.numbers list numbers n mine there)
-    c.add_part.ensures.answer c.add_part.ensures.failed)
-    (grown (λ cycle. cycle.items) c.add_part.result c.args.label numbers old.edges new.edges
-    c.add_part.ensures.answer c.add_part.ensures.failed)
+    kept_by_pairs (λ cycle. cycle.items) c.add_part.result inside.numbers inside.views.items inside.order.order new.order
+    inside.order.edges new.edges c.args.label c.args.part.now c.self.invariant c.add_part.ensures.elements
+    (within c.args.self.now.elements inside.numbers c.args.part.now (ap (λ v. v.elements) c.self.view_is) c.requires)
+    c.add_part.ensures.answer c.add_part.ensures.failed
 
 pub invariant_of-self-in_default : goal.invariant_of-self-in_default
 invariant_of-self-in_default c =
     let inside = c.self.inside in
-    let old = inside.order in
     let new = c.add_part.new.order in
-    let numbers = c.args.part.now in
-    let (list, are) = c.requires in
-    let mine = subst (λ xs. AreNumbersOf xs list numbers) (sym (ap (λ v. v.elements) c.self.view_is)) are in
-    kept_views inside.numbers inside.views.items old.order new.order old.edges new.edges c.self.invariant
-    (λ n there. Contains-permutation old.order new.order n c.add_part.ensures.elements there)
-    (between_after (λ cycle. cycle.items) c.add_part.result inside.numbers c.args.label numbers old.edges new.edges
-    c.self.invariant.between (λ n there. numbers_within inside.numbers list numbers n mine there)
-    c.add_part.ensures.answer c.add_part.ensures.failed)
-    (grown (λ cycle. cycle.items) c.add_part.result c.args.label numbers old.edges new.edges
-    c.add_part.ensures.answer c.add_part.ensures.failed)
+    kept_by_pairs (λ cycle. cycle.items) c.add_part.result inside.numbers inside.views.items inside.order.order new.order
+    inside.order.edges new.edges c.args.label c.args.part.now c.self.invariant c.add_part.ensures.elements
+    (within c.args.self.now.elements inside.numbers c.args.part.now (ap (λ v. v.elements) c.self.view_is) c.requires)
+    c.add_part.ensures.answer c.add_part.ensures.failed
 
 pub returns-in_default-clause-edges : goal.returns-in_default-clause-edges
 returns-in_default-clause-edges c = λ list are.
@@ -59,18 +43,11 @@ returns-in_default-clause-edges c = λ list are.
 pub invariant_of-self-2 : goal.invariant_of-self-2
 invariant_of-self-2 c =
     let inside = c.self.inside in
-    let old = inside.order in
     let new = c.add_part.new.order in
-    let numbers = c.args.part.now in
-    let (list, are) = c.requires in
-    let mine = subst (λ xs. AreNumbersOf xs list numbers) (sym (ap (λ v. v.elements) c.self.view_is)) are in
-    kept_views inside.numbers inside.views.items old.order new.order old.edges new.edges c.self.invariant
-    (λ n there. Contains-permutation old.order new.order n c.add_part.ensures.elements there)
-    (between_after (λ cycle. cycle.items) c.add_part.result inside.numbers c.args.label numbers old.edges new.edges
-    c.self.invariant.between (λ n there. numbers_within inside.numbers list numbers n mine there)
-    c.add_part.ensures.answer c.add_part.ensures.failed)
-    (grown (λ cycle. cycle.items) c.add_part.result c.args.label numbers old.edges new.edges
-    c.add_part.ensures.answer c.add_part.ensures.failed)
+    kept_by_pairs (λ cycle. cycle.items) c.add_part.result inside.numbers inside.views.items inside.order.order new.order
+    inside.order.edges new.edges c.args.label c.args.part.now c.self.invariant c.add_part.ensures.elements
+    (within c.args.self.now.elements inside.numbers c.args.part.now (ap (λ v. v.elements) c.self.view_is) c.requires)
+    c.add_part.ensures.answer c.add_part.ensures.failed
 
 pub returns-clause-edges : goal.returns-clause-edges
 returns-clause-edges c = λ list are.
