@@ -1,6 +1,6 @@
 -- The effects after an operation, a delivery or a join.
-use Rattle.std.proofs.Common.{◌≡◌, ◌↔◌, ℕ, ◌<◌, ◌+◌, Bool, true, false, List, [], ◌∷◌, ◌++◌, length, get_or, set, take, Option, Some, None, refl, sym, ap, ◌∙◌, subst, inl, inr, arith}
-use Rattle.std.specs.Prelude.{◌==◌, Contains, unwrap_or, if◌then◌else◌}
+use Rattle.std.proofs.Common.{◌≡◌, ◌↔◌, ℕ, ◌<◌, ◌+◌, Bool, true, false, List, [], ◌∷◌, ◌++◌, length, get_or, set, take, Option, Some, None, Result, Ok, Err, refl, sym, ap, ◌∙◌, subst, inl, inr, arith}
+use Rattle.std.specs.Prelude.{◌==◌, Contains, unwrap_or, IfOk, IfSome, OnErr, MatchOption, if◌then◌else◌}
 use Rattle.std.specs.List.{slice_get}
 use Rattle.std.specs.Ordering.{nat_cmp}
 use Rattle.std.specs.BTreeSet.{insert_key}
@@ -392,3 +392,54 @@ admitted_insertion state insertion some = some_step (can_insert state insertion)
 
 pub admitted_removal : (state : ListState) (x : ℕ) → ¬ (list_step state (Hide x) ≡ None) → is_among x state.inserted ≡ true
 admitted_removal state x some = some_step (is_among x state.inserted) _ some
+
+-- the effects have these parts
+made_of : (now : Effects) (witness : ListWitness) (changes : List (Option Change)) → now.witness ≡ witness
+    → now.changes ≡ changes → now ≡ effects_of witness changes
+made_of now witness changes same are = λ i. record { witness = same i; changes = are i }
+
+-- after an operation whose change is kept only if it was added
+module _ (old new : ListWitness) (changes more : List (Option Change)) (one : Option Change) (count : ℕ) (now : Effects)
+    (past : Past) (stands : AreEffectsOf (effects_of old changes) past) (is : count ≡ length changes)
+    (pushed : more ≡ changes ++ one ∷ []) (witness : now.witness ≡ new) where
+  rejected : now.changes ≡ take count more → new.elements ≡ old.elements → AreSameMarks old.views new.views
+      → new.edges ≡ old.edges → AreEffectsOf now past
+  rejected back elements marks edges =
+      subst (λ e. AreEffectsOf e past)
+      (sym (made_of now new changes witness (back ∙ without_last changes more one count is pushed)))
+      (same_past old new changes past stands elements marks edges)
+
+  accepted : (next : Past) → now.changes ≡ more → AreEffectsOf (effects_of new (changes ++ one ∷ [])) next
+      → AreEffectsOf now next
+  accepted next kept done =
+      subst (λ e. AreEffectsOf e next) (sym (made_of now new (changes ++ one ∷ []) witness (kept ∙ pushed))) done
+
+  pub failed_past : {T E : Type 0} (r : Result T E) → OnErr r (now.changes ≡ take count more)
+      → OnErr r ((new.elements ≡ old.elements) × (new.edges ≡ old.edges)) → OnErr r (AreSameMarks old.views new.views)
+      → OnErr r (AreEffectsOf now past)
+  failed_past (Ok x) back same marks = tt
+  failed_past (Err e) back same marks = rejected back same.0 marks same.1
+
+  pub after_pairs : {T E : Type 0} (items : T → List Edge) (r : Result (Option T) E) (next : Past) (label : ℕ)
+      (list : List ℕ) → IfOk r (λ found. MatchOption found (now.changes ≡ more) (λ cycle. now.changes ≡ take count more))
+      → IfOk r (λ found. MatchOption found (Unit {0}) (λ cycle. (new.elements ≡ old.elements) × AreSameMarks old.views new.views))
+      → IfOk r (λ found. MatchOption found (AddsPairs label list old.edges new.edges)
+      (λ cycle. (new.edges ≡ old.edges) × IsCycle (with_pairs label list old.edges) (items cycle)))
+      → (r ≡ Ok None → AddsPairs label list old.edges new.edges → AreEffectsOf (effects_of new (changes ++ one ∷ [])) next)
+      → IfOk r (λ found. MatchOption found (AreEffectsOf now next)
+      (λ cycle. AreEffectsOf now past × IsCycle (past.edges ++ edges_of_read label list) (items cycle)))
+  after_pairs items (Ok None) next label list kept same answer done = accepted next kept (done refl answer)
+  after_pairs items (Ok (Some cycle)) next label list back same answer done = (
+    rejected back same.0 same.1 answer.0,
+    cycle_of_past past.edges old.edges label list (items cycle) stands.required answer.1,
+  )
+  after_pairs items (Err e) next label list kept same answer done = tt
+
+  pub unchanged_past : {T E : Type 0} (r : Result (Option T) E) (A : Type 0) (C : T → Type 0)
+      → IfOk r (λ found. MatchOption found (now.changes ≡ more) (λ cycle. now.changes ≡ take count more))
+      → IfOk r (λ found. MatchOption found (Unit {0}) (λ cycle. (new.elements ≡ old.elements) × AreSameMarks old.views new.views))
+      → IfOk r (λ found. MatchOption found A (λ cycle. (new.edges ≡ old.edges) × C cycle))
+      → IfOk r (λ found. IfSome found (λ cycle. AreEffectsOf now past))
+  unchanged_past (Ok None) A C kept same answer = tt
+  unchanged_past (Ok (Some cycle)) A C back same answer = rejected back same.0 same.1 answer.0
+  unchanged_past (Err e) A C kept same answer = tt

@@ -7,6 +7,7 @@ use Rattle.ra_list_replica.specs.Numbers.{AreNumbersOf, HasOneNumberEach}
 use Rattle.ra_list_replica.specs.Listing.{AreAsLast}
 use Rattle.ra_list_witness.specs.ListWitness.{ListWitness, view_at}
 use Rattle.ra_list_witness.specs.Causes.{IsHadAs, CanInsert}
+use Rattle.ra_list_witness.specs.Named.{IsPlacement}
 use Rattle.ra_labels.specs.declared.list_operation.ListOp.{ListOp}
 use Rattle.ra_labels.specs.declared.list_operation.ListOp.TheVariants as op
 use Rattle.ra_labels.specs.declared.list_operation.ListUpdate.{ListUpdate}
@@ -51,7 +52,8 @@ pub record AreEffectsOf (effects : Effects) (past : Past) : Type 0 where
 
 -- holds if this was found for the operation at the replica
 abbrev pub IsFoundFor : Effects → ℕ → ListOp → Found → Type 0
-IsFoundFor effects replica (op.Insert insertion) found.Insertion = CanInsert effects.witness.elements insertion
+IsFoundFor effects replica (op.Insert insertion) (found.Insertion placement) =
+    CanInsert effects.witness.elements insertion × IsPlacement effects.witness.elements insertion placement
 IsFoundFor effects replica (op.Remove x) (found.Element number) =
     IsHadAs effects.witness.elements (view_at effects.witness.views replica).marks x number
 IsFoundFor effects replica (op.Read list) (found.Read listed) =

@@ -1,12 +1,11 @@
 //! The effects of the operations of one list.
-ghost use Rattle.std.specs.Prelude.{◌≡◌, ℕ, ◌<◌, ◌++◌, List, length, get_or, None, Some, is_some, IfOk, IfSome, OnOk, OnErr, MatchOption};
+ghost use Rattle.std.specs.Prelude.{◌≡◌, ℕ, ◌<◌, ◌++◌, List, length, take, get_or, Contains, None, Some, is_some, IfOk, IfSome, OnOk, OnErr, MatchOption};
 ghost use Rattle.std.specs.List.{slice_get};
 ghost use Rattle.std.specs.Result.{result_err};
 ghost use Rattle.ra_list_replica.specs.declared.mark.Mark.TheVariants as marks;
 ghost use Rattle.ra_list_replica.specs.Numbers.{AreNumbersOf};
 ghost use Rattle.ra_list_witness.specs.ListWitness.{mark_of};
-ghost use Rattle.ra_list_witness.specs.Named.{IsOrderOf};
-ghost use Rattle.ra_list_witness.specs.Causes.{CanInsert};
+ghost use Rattle.ra_list_witness.specs.Named.{IsOrderOf, IsPlacement};
 ghost use Rattle.ra_labels.specs.Edges.{Extends, IsCycle};
 ghost use Rattle.ra_labels.specs.declared.list_operation.ListOp.TheVariants as op;
 ghost use Rattle.ra_labels.specs.declared.list_operation.ListUpdate.{ListUpdate};
@@ -17,6 +16,7 @@ ghost use Rattle.ra_list_effects.specs.Past.{Past, empty_past, state_at, cause_a
 ghost use Rattle.ra_list_effects.specs.Effects.{AreEffectsOf, IsFoundFor, MayDeliver};
 
 use ra_labels::{Cause, Edge, Insertion, ListOp, NoMemory};
+use ra_list_edges::Placement;
 use ra_list_replica::Listed;
 use ra_list_witness::ListWitness;
 use std::alloc::Global;
@@ -34,8 +34,8 @@ pub enum Change {
 /// What the test of an operation found, so that nothing is looked up again when the operation is added.
 #[derive(Drop)]
 pub enum Found {
-    /// Nothing else, for an insertion.
-    Insertion,
+    /// The numbers of the new element and of its neighbours.
+    Insertion(Placement),
     /// The number of the element that is removed.
     Element(u32),
     /// The numbers of the elements that were read.
@@ -92,7 +92,8 @@ impl ListEffects {
     ///
     /// # Complexity
     ///
-    /// O(log n) with `n` elements for an insertion or a removal. For a read that of `ListWitness::check_read`.
+    /// O(log n) with `n` elements for an insertion or a removal. For a read that of `ListWitness::check_read`, and for
+    /// a part that of `ListWitness::check_part`.
     pub fn test(
         &mut self,
         alloc: Global,
@@ -141,8 +142,8 @@ impl ListEffects {
         requires found { IsFoundFor self.old replica op.now found }
         // The number of elements is below the limit.
         requires few { length self.old.witness.elements < 4294967295 }
-        // After an operation that fits, the effects represent the past with it; or the result is a cycle of its edges
-        // and the earlier ones, and the same past is represented.
+        // If the operation has no cause to fail, the effects represent the past with it; or the result is a cycle of
+        // its edges and the earlier ones, and the same past is represented.
         ensures added { (past : Past) → AreEffectsOf self.old past → cause_at past replica op.now ≡ None
             → IfOk result (λ found. MatchOption found
             (AreEffectsOf self.new (with_operation past replica op.now label))
@@ -154,7 +155,12 @@ impl ListEffects {
         ensures failed { (past : Past) → AreEffectsOf self.old past → OnErr result (AreEffectsOf self.new past) }
     {
         match op {
-            ListOp::Insert(insertion) => self.add_insertion(alloc, replica, *insertion, label),
+            ListOp::Insert(insertion) => match found {
+                Found::Insertion(placement) => {
+                    self.add_insertion(alloc, replica, *insertion, placement, label)
+                }
+                _ => unreachable!(),
+            },
             ListOp::Remove(_) => match found {
                 Found::Element(number) => {
                     self.add_removal(replica, number)?;
@@ -296,10 +302,12 @@ impl ListEffects {
         alloc: Global,
         replica: u8,
         insertion: Insertion,
+        placement: Placement,
         label: u32,
     ) -> Result<Option<Vec<Edge>>, NoMemory>
         requires replica { replica < length self.old.witness.views }
-        requires new { CanInsert self.old.witness.elements insertion }
+        requires new { ¬ Contains self.old.witness.elements insertion.element }
+        requires placement { IsPlacement self.old.witness.elements insertion placement }
         requires few { length self.old.witness.elements < 4294967295 }
         ensures added { (past : Past) → AreEffectsOf self.old past → cause_at past replica (op.Insert insertion) ≡ None
             → IfOk result (λ found. MatchOption found
@@ -310,20 +318,13 @@ impl ListEffects {
             → IfOk result (λ found. IfSome found (λ cycle. AreEffectsOf self.new past)) }
         ensures failed { (past : Past) → AreEffectsOf self.old past → OnErr result (AreEffectsOf self.new past) }
     {
-        let number = self.witness.len() as u32;
         let count = self.changes.len();
-        self.changes.push(Some(Change::Show(number)))?;
-        match self.witness.insert(alloc, replica, insertion, label) {
-            Ok(None) => Ok(None),
-            Ok(Some(cycle)) => {
-                self.changes.truncate(count);
-                Ok(Some(cycle))
-            }
-            Err(error) => {
-                self.changes.truncate(count);
-                Err(error)
-            }
-        }
+        self.changes.push(Some(Change::Show(placement.element)))?;
+        let added = self
+            .witness
+            .insert(alloc, replica, insertion, placement, label);
+        self.keep_changes(count, &added);
+        added
     }
 
     // Adds a removal.
@@ -358,17 +359,9 @@ impl ListEffects {
     {
         let count = self.changes.len();
         self.changes.push(None)?;
-        match self.witness.read(alloc, replica, listed, label) {
-            Ok(None) => Ok(None),
-            Ok(Some(cycle)) => {
-                self.changes.truncate(count);
-                Ok(Some(cycle))
-            }
-            Err(error) => {
-                self.changes.truncate(count);
-                Err(error)
-            }
-        }
+        let added = self.witness.read(alloc, replica, listed, label);
+        self.keep_changes(count, &added);
+        added
     }
 
     // Adds a read of a part of the list.
@@ -387,16 +380,20 @@ impl ListEffects {
     {
         let count = self.changes.len();
         self.changes.push(None)?;
-        match self.witness.read_part(alloc, part, label) {
-            Ok(None) => Ok(None),
-            Ok(Some(cycle)) => {
-                self.changes.truncate(count);
-                Ok(Some(cycle))
-            }
-            Err(error) => {
-                self.changes.truncate(count);
-                Err(error)
-            }
+        let added = self.witness.read_part(alloc, part, label);
+        self.keep_changes(count, &added);
+        added
+    }
+
+    // Keeps only the given number of changes, the first ones, unless an operation was added.
+    fn keep_changes(&mut self, count: usize, added: &Result<Option<Vec<Edge>>, NoMemory>)
+        ensures witness { self.new.witness ≡ self.old.witness }
+        ensures changes { IfOk added.now (λ found. MatchOption found (self.new.changes ≡ self.old.changes)
+            (λ cycle. self.new.changes ≡ take count self.old.changes)) }
+        ensures failed { OnErr added.now (self.new.changes ≡ take count self.old.changes) }
+    {
+        if !matches!(added, Ok(None)) {
+            self.changes.truncate(count);
         }
     }
 
@@ -406,9 +403,9 @@ impl ListEffects {
             → result_err result ≡ cause_at past replica (op.Insert insertion) }
         ensures found { IfOk result (IsFoundFor self.now replica (op.Insert insertion)) }
     {
-        match self.witness.cause_of_insertion(replica, insertion) {
-            None => Ok(Found::Insertion),
-            Some(cause) => Err(cause),
+        match self.witness.find_placement(replica, insertion) {
+            Ok(placement) => Ok(Found::Insertion(placement)),
+            Err(cause) => Err(cause),
         }
     }
 

@@ -21,11 +21,12 @@ use Rattle.ra_list_witness.proofs.Views.{view_set}
 -- with another view of one replica
 pub kept_set : (elements elements' : List ℕ) (views : List View) (order order' : List ℕ) (edges edges' : List Edge) (at : ℕ)
     (view : View) → ListWitnessKept elements views order edges → at < length views → length elements ≤ length elements'
-    → ((n : ℕ) → n < length elements' → Contains order' n) → AreBetweenNumbers elements' edges'
+    → length elements' < 4294967296 → ((n : ℕ) → n < length elements' → Contains order' n) → AreBetweenNumbers elements' edges'
     → ((xs : List ℕ) → HasPairs edges xs → HasPairs edges' xs)
     → ((n : ℕ) → length elements' ≤ n → mark_at view.marks n ≡ Missing) → HasPairs edges' view.last
     → ListWitnessKept elements' (set views at view) order' edges'
-kept_set elements elements' views order order' edges edges' at view kept there long ordered between wide beyond last = record {
+kept_set elements elements' views order order' edges edges' at view kept there long few ordered between wide beyond last = record {
+  few = few;
   ordered = ordered;
   between = between;
   beyond = λ replica n past. view_set (λ v. mark_at v.marks n ≡ Missing) views at view replica there (λ is. beyond n past)
@@ -40,6 +41,7 @@ kept_views : (elements : List ℕ) (views : List View) (order order' : List ℕ)
     → AreBetweenNumbers elements edges' → ((xs : List ℕ) → HasPairs edges xs → HasPairs edges' xs)
     → ListWitnessKept elements views order' edges'
 kept_views elements views order order' edges edges' kept ordered between pairs = record {
+  few = kept.few;
   ordered = λ n there. ordered n (kept.ordered n there);
   between = between;
   beyond = kept.beyond;
@@ -72,15 +74,16 @@ shown_marks old number new n is =
 
 pub kept_by_insert : (elements : List ℕ) (views : List View) (order order' : List ℕ) (edges edges' : List Edge) (at x : ℕ)
     (view : View) (label : ℕ) (numbers : List ℕ) → ListWitnessKept elements views order edges → at < length views
-    → IsShownIn (view_at views at) (length elements) view → ((n : ℕ) → Contains order n → Contains order' n)
+    → length elements < 4294967295 → IsShownIn (view_at views at) (length elements) view → ((n : ℕ) → Contains order n → Contains order' n)
     → Contains order' (length elements) → ((n : ℕ) → Contains numbers n → n ≤ length elements)
     → AddsSome label numbers edges edges'
     → ListWitnessKept (elements ++ x ∷ []) (set views at view) order' edges'
-kept_by_insert elements views order order' edges edges' at x view label numbers kept there shown ordered new below adds =
+kept_by_insert elements views order order' edges edges' at x view label numbers kept there few shown ordered new below adds =
     let more = length_push elements x in
     let wide : (xs : List ℕ) → HasPairs edges xs → HasPairs edges' xs =
     λ xs has. pairs_after label numbers edges edges' xs adds has in
     kept_set elements (elements ++ x ∷ []) views order order' edges edges' at view kept there (omega (arith, more))
+    (omega (arith, more, few))
     (λ n within. elim (cases_eq n (length elements)) [
       | inl last ↦ subst (Contains order') (sym last) new
       | inr before ↦ ordered n (kept.ordered n (omega (arith, within, more, before)))
@@ -99,7 +102,7 @@ pub kept_by_show : (elements : List ℕ) (views : List View) (order : List ℕ) 
     (view : View) → ListWitnessKept elements views order edges → at < length views → number < length elements
     → IsShownIn (view_at views at) number view → ListWitnessKept elements (set views at view) order edges
 kept_by_show elements views order edges at number view kept there known shown =
-    kept_set elements elements views order order edges edges at view kept there (omega arith) kept.ordered kept.between
+    kept_set elements elements views order order edges edges at view kept there (omega arith) kept.few kept.ordered kept.between
     (λ xs has. has)
     (λ n past. shown_marks (view_at views at) number view n shown
     ∙ cond-false (n == number) Shown (mark_of views at n)
@@ -113,7 +116,7 @@ pub kept_by_hide : (elements : List ℕ) (views : List View) (order : List ℕ) 
     → ¬ (mark_of views at number ≡ Missing) → view.marks ≡ set (view_at views at).marks number Removed
     → view.last ≡ (view_at views at).last → ListWitnessKept elements (set views at view) order edges
 kept_by_hide elements views order edges at number view kept there had marks last =
-    kept_set elements elements views order order edges edges at view kept there (omega arith) kept.ordered kept.between
+    kept_set elements elements views order order edges edges at view kept there (omega arith) kept.few kept.ordered kept.between
     (λ xs has. has)
     (λ n past. ap (λ ms. mark_at ms n) marks
     ∙ get_or-set_other (view_at views at).marks number n Removed Missing
@@ -130,7 +133,7 @@ pub kept_by_rejection : (elements elements' : List ℕ) (views : List View) (ord
 kept_by_rejection elements elements' views order order' edges edges' at view kept there same_elements same_edges marks last ordered =
     subst (λ xs. ListWitnessKept xs (set views at view) order' edges') (sym same_elements)
     (subst (λ es. ListWitnessKept elements (set views at view) order' es) (sym same_edges)
-    (kept_set elements elements views order order' edges edges at view kept there (omega arith)
+    (kept_set elements elements views order order' edges edges at view kept there (omega arith) kept.few
     (λ n within. ordered n (kept.ordered n within)) kept.between (λ xs has. has)
     (λ n past. marks n ∙ kept.beyond at n past)
     (subst (HasPairs edges) (sym last) (kept.lasts at))))

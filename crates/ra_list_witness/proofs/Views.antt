@@ -50,6 +50,7 @@ first_view n replica = elim (cases_lt replica n) [
 pub kept_first : (elements : List ℕ) (n : ℕ) (order : List ℕ) (edges : List Edge) → elements ≡ [] → edges ≡ []
     → ListWitnessKept elements (replicate n no_view) order edges
 kept_first elements n order edges none nothing = record {
+  few = omega (arith, ap length none);
   ordered = λ x there. absurd (omega (arith, there, ap length none));
   between = λ edge there. absurd (none_there edge (subst (λ es. Contains es edge) nothing there));
   beyond = λ replica number past. ap (λ v. mark_at v.marks number) (first_view n replica);
@@ -71,6 +72,7 @@ pub kept_by_join : (elements : List ℕ) (views views' : List View) (order : Lis
     → ListWitnessKept elements views' order edges
 kept_by_join elements views views' order edges from kept is =
     subst (λ vs. ListWitnessKept elements vs order edges) (sym is) (record {
+      few = kept.few;
       ordered = kept.ordered;
       between = kept.between;
       beyond = λ replica n past. view_push (λ v. mark_at v.marks n ≡ Missing) views (view_at views from) replica

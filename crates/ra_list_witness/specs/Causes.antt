@@ -21,7 +21,7 @@ HasElement elements marks x = (number : ℕ) × IsHadAs elements marks x number
 abbrev pub HasNeighbor : List ℕ → List Mark → ℕ → Type 0
 HasNeighbor elements marks x = (x ≡ 0) ⊎ HasElement elements marks x
 
--- holds if the element was never inserted and its neighbours, if any are named, were
+-- holds if the element is not 0 and was never inserted, and its neighbours, if any are named, were
 pub record CanInsert (elements : List ℕ) (insertion : Insertion) : Type 0 where
   pub some : ¬ (insertion.element ≡ 0)
   pub new : ¬ Contains elements insertion.element

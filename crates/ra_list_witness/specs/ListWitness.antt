@@ -40,6 +40,8 @@ pub record IsMarked (old : List View) (at number : ℕ) (mark : Mark) (new : Lis
 -- the representation invariant, of an order and edges in which elements go by their numbers: the order has all numbers,
 -- and perhaps one of an element whose insertion was rejected
 pub record ListWitnessKept (elements : List ℕ) (views : List View) (order : List ℕ) (edges : List Edge) : Type 0 where
+  -- each number, and that of the next element, fits 32 bits
+  pub few : length elements < 4294967296
   pub ordered : (number : ℕ) → number < length elements → Contains order number
   pub between : AreBetweenNumbers elements edges
   pub beyond : (replica number : ℕ) → length elements ≤ number → mark_of views replica number ≡ Missing

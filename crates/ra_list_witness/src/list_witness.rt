@@ -1,6 +1,6 @@
 //! The witness of one list.
-ghost use Rattle.std.specs.Prelude.{◌≡◌, ℕ, ◌+◌, ◌-◌, ◌<◌, ◌≤◌, ◌++◌, ◌∷◌, List, [], length, IfOk, OnOk, OnErr, MatchOption, MatchResult};
-ghost use Rattle.std.specs.List.{slice_get};
+ghost use Rattle.std.specs.Prelude.{◌≡◌, ℕ, ◌+◌, ◌-◌, ◌<◌, ◌≤◌, ◌++◌, ◌∷◌, List, [], length, Contains, IfOk, OnOk, OnErr, MatchOption, MatchResult};
+ghost use Rattle.std.specs.Result.{result_err};
 ghost use Rattle.ra_labels.specs.Edges.{Extends, IsCycle};
 ghost use Rattle.ra_labels.specs.Neighborhood.{neighborhood};
 ghost use Rattle.ra_list_edges.specs.Pairs.{AddsPairs, with_pairs};
@@ -9,13 +9,13 @@ ghost use Rattle.ra_list_replica.specs.Numbers.{AreNumbersOf};
 ghost use Rattle.ra_list_replica.specs.View.{IsPart, IsRead};
 ghost use Rattle.ra_list_replica.specs.Listing.{AreAsLast};
 ghost use Rattle.ra_list_witness.specs.ListWitness.{view_at, mark_of, AreSameMarks, IsMarked};
-ghost use Rattle.ra_list_witness.specs.Named.{IsOrderOf};
-ghost use Rattle.ra_list_witness.specs.Causes.{IsHadAs, CanInsert, IsCauseAt, IsCauseOfNeighbor, IsCauseOfInsertion};
+ghost use Rattle.ra_list_witness.specs.Named.{IsOrderOf, IsPlacement};
+ghost use Rattle.ra_list_witness.specs.Causes.{IsHadAs, IsCauseAt, IsCauseOfInsertion};
 
-use crate::causes::first_cause;
-use crate::named::{elements_of, name_edges, placement_of};
+use crate::finding::{find, find_placement};
+use crate::named::{elements_of, name_edges};
 use ra_labels::{Cause, Edge, Insertion, NoMemory};
-use ra_list_edges::{add_insertion, add_part, add_read};
+use ra_list_edges::{Placement, add_insertion, add_part, add_read};
 use ra_list_order::ListOrder;
 use ra_list_replica::{ElementNumbers, Listed, Mark, ReplicaView};
 use std::alloc::Global;
@@ -96,52 +96,35 @@ impl ListWitness {
             MatchResult result (IsHadAs self.now.elements marks element)
             (IsCauseAt self.now.elements marks element) }
     {
-        let Some(number) = self.numbers.number_of(element) else {
-            return Err(Cause::Update);
-        };
-        match self.views[replica as usize].mark(number) {
-            Mark::Missing => Err(Cause::Query),
-            Mark::Shown | Mark::Removed => Ok(number),
-        }
+        find(&self.numbers, &self.views[replica as usize], element)
     }
 
-    /// Returns the reason for which an insertion at the replica fails, apart from its edges, or `None` if there is
-    /// none: `Update` if the element is 0 or was inserted before, or a neighbour never was; else `Query` if a neighbour
-    /// was not delivered to the replica.
+    /// Returns the numbers of a new element and of its neighbours, or the reason for which its insertion at the replica
+    /// fails. Whether the edges of the insertion fit the others is not tested.
+    ///
+    /// # Errors
+    ///
+    /// `Update` if the element is 0 or was inserted before, or a neighbour never was; else `Query` if a neighbour was
+    /// not delivered to the replica.
     ///
     /// # Complexity
     ///
     /// O(log n) with `n` elements.
-    pub fn cause_of_insertion(&self, replica: u8, insertion: Insertion) -> Option<Cause>
+    pub fn find_placement(&self, replica: u8, insertion: Insertion) -> Result<Placement, Cause>
         // The replica has a view.
         requires { replica < length self.now.views }
-        // The result is the first reason that applies, or `None` if none does.
-        ensures { IsCauseOfInsertion self.now.elements (view_at self.now.views replica).marks insertion result }
+        // The error is the first reason that applies; there is none if no reason does.
+        ensures cause { let marks = (view_at self.now.views replica).marks in
+            IsCauseOfInsertion self.now.elements marks insertion (result_err result) }
+        // The numbers are those of the new element and of the neighbours that are named.
+        ensures placement { IfOk result (IsPlacement self.now.elements insertion) }
     {
-        if insertion.element == 0 || self.numbers.contains(insertion.element) {
-            return Some(Cause::Update);
-        }
-        let left = self.cause_of_neighbor(replica, insertion.left);
-        let right = self.cause_of_neighbor(replica, insertion.right);
-        first_cause(left, right)
+        find_placement(&self.numbers, &self.views[replica as usize], insertion)
     }
 
-    // Returns the reason for which an insertion at the replica cannot name this neighbour, or `None` if it can.
-    fn cause_of_neighbor(&self, replica: u8, neighbor: u32) -> Option<Cause>
-        requires { replica < length self.now.views }
-        ensures { IsCauseOfNeighbor self.now.elements (view_at self.now.views replica).marks neighbor result }
-    {
-        if neighbor == 0 {
-            return None;
-        }
-        match self.find(replica, neighbor) {
-            Ok(_) => None,
-            Err(cause) => Some(cause),
-        }
-    }
-
-    /// Inserts a new element, which the replica then shows, and returns `None`; or returns a cycle of its edges and the
-    /// earlier ones. After a cycle nothing is changed but the kept order, which may have the rejected element.
+    /// Inserts a new element, which the replica then shows, at the placement that `find_placement` found, and returns
+    /// `None`; or returns a cycle of its edges and the earlier ones. After a cycle nothing is changed but the kept
+    /// order, which may have the rejected element.
     ///
     /// # Errors
     ///
@@ -149,18 +132,22 @@ impl ListWitness {
     ///
     /// # Complexity
     ///
-    /// O(log n) with `n` elements, amortized, and `ra_list_edges::add_insertion`.
+    /// O(log n) with `n` elements, amortized, and `ra_list_edges::add_insertion`; and O(length of the cycle) if
+    /// there is one.
     pub fn insert(
         &mut self,
         alloc: Global,
         replica: u8,
         insertion: Insertion,
+        placement: Placement,
         label: u32,
     ) -> Result<Option<Vec<Edge>>, NoMemory>
         // The replica has a view.
         requires replica { replica < length self.old.views }
-        // The element is new and its neighbours are not.
-        requires new { CanInsert self.old.elements insertion }
+        // The element is new.
+        requires new { ¬ Contains self.old.elements insertion.element }
+        // The numbers are those of the new element and of the neighbours that are named.
+        requires placement { IsPlacement self.old.elements insertion placement }
         // The next number fits 32 bits.
         requires few { length self.old.elements < 4294967295 }
         // The element has the next number, unless the result is a cycle.
@@ -183,13 +170,11 @@ impl ListWitness {
         // The last reads are unchanged, even after a failure.
         ensures lasts { (other : ℕ) → (view_at self.new.views other).last ≡ (view_at self.old.views other).last }
     {
-        let number = self.numbers.len() as u32;
-        let placement = placement_of(&self.numbers, insertion);
-        self.views[replica as usize].reserve(number)?;
+        self.views[replica as usize].reserve(placement.element)?;
         self.numbers.add(insertion.element)?;
         match add_insertion(alloc, &mut self.order, placement, label) {
             Ok(None) => {
-                self.views[replica as usize].insert(number);
+                self.views[replica as usize].insert(placement.element);
                 Ok(None)
             }
             Ok(Some(mut cycle)) => {
@@ -256,7 +241,7 @@ impl ListWitness {
     ) -> Result<Option<Vec<u32>>, NoMemory>
         // The replica has a view.
         requires { replica < length self.old.views }
-        // The result is `None` exactly if the list has not shown elements alone, each at most once.
+        // The result is `None` exactly if the list has an element that the replica does not show, or one twice.
         ensures exactly { let marks = (view_at self.old.views replica).marks in
             IfOk result (λ found. MatchOption found (¬ IsPart self.old.elements marks list.now)
             (λ part. IsPart self.old.elements marks list.now)) }

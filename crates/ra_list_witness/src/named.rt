@@ -1,42 +1,10 @@
 //! Elements by their numbers.
-ghost use Rattle.std.specs.Prelude.{◌≡◌, ◌<◌, length, IfOk};
-ghost use Rattle.ra_labels.specs.Neighborhood.{IsKnown};
-ghost use Rattle.ra_list_witness.specs.Named.{all_named, elements_of, IsNeighbor, IsPlacement};
+ghost use Rattle.std.specs.Prelude.{◌≡◌, IfOk};
+ghost use Rattle.ra_list_witness.specs.Named.{all_named, elements_of};
 
-use ra_labels::{Edge, Insertion, NoMemory};
-use ra_list_edges::Placement;
+use ra_labels::{Edge, NoMemory};
 use ra_list_replica::ElementNumbers;
 use std::alloc::Global;
-
-/// Returns the numbers of a new element and of the neighbours that its insertion names.
-///
-/// # Complexity
-///
-/// O(log n) with `n` elements.
-pub fn placement_of(numbers: &ElementNumbers, insertion: Insertion) -> Placement
-    requires left { IsKnown numbers.now insertion.left }
-    requires right { IsKnown numbers.now insertion.right }
-    requires few { length numbers.now < 4294967295 }
-    ensures { IsPlacement numbers.now insertion result }
-{
-    Placement {
-        left: number_of_neighbor(numbers, insertion.left),
-        element: numbers.len() as u32,
-        right: number_of_neighbor(numbers, insertion.right),
-    }
-}
-
-// Returns the number of a neighbour, or `None` if none is named.
-fn number_of_neighbor(numbers: &ElementNumbers, neighbor: u32) -> Option<u32>
-    requires { IsKnown numbers.now neighbor }
-    ensures { IsNeighbor numbers.now neighbor result }
-{
-    if neighbor == 0 {
-        None
-    } else {
-        numbers.number_of(neighbor)
-    }
-}
 
 /// Returns the elements with these numbers, in this order. A number that no element has is left out.
 ///

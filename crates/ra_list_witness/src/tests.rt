@@ -80,19 +80,29 @@ fn insert(
     insertion: Insertion,
     label: u32,
 ) -> Result<Option<Cause>, NoMemory> {
-    assert!(rt; (replica as usize) < witness.replicas());
-    assert!(rt; witness.len() < 1_000_000);
-    if let Some(cause) = witness.cause_of_insertion(replica, insertion) {
-        return Ok(Some(cause));
-    }
     let (elements, edges) = (witness.len(), witness.edge_count());
-    if let Ok(cycle) = witness.insert(alloc, replica, insertion, label) {
-        return Ok(order_if(cycle.is_some()));
+    if let Ok(cause) = try_insert(rt, alloc, witness, replica, insertion, label) {
+        return Ok(cause);
     }
     assert_eq!(rt; (witness.len(), witness.edge_count()), (elements, edges));
+    try_insert(rt, alloc, witness, replica, insertion, label)
+}
+
+fn try_insert(
+    rt: &impl Abort,
+    alloc: Global,
+    witness: &mut ListWitness,
+    replica: u8,
+    insertion: Insertion,
+    label: u32,
+) -> Result<Option<Cause>, NoMemory> {
     assert!(rt; (replica as usize) < witness.replicas());
-    assert!(rt; witness.cause_of_insertion(replica, insertion).is_none());
-    let cycle = witness.insert(alloc, replica, insertion, label)?;
+    assert!(rt; witness.len() < 1_000_000);
+    let placement = match witness.find_placement(replica, insertion) {
+        Ok(placement) => placement,
+        Err(cause) => return Ok(Some(cause)),
+    };
+    let cycle = witness.insert(alloc, replica, insertion, placement, label)?;
     Ok(order_if(cycle.is_some()))
 }
 

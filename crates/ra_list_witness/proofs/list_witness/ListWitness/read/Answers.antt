@@ -68,7 +68,7 @@ invariant_of-self-in-None-1 c =
     new.edges c.args.label c.deref.result.now c.self.invariant c.add_read.ensures.elements below c.add_read.ensures.answer
     c.add_read.ensures.failed in
     kept_set inside.numbers inside.numbers views new.order new.order new.edges new.edges c.args.replica c.keep.new.self kept
-    there (omega arith) kept.ordered kept.between (λ xs has. has)
+    there (omega arith) kept.few kept.ordered kept.between (λ xs has. has)
     (λ n past. ap (λ ms. mark_at ms n) marks ∙ kept.beyond c.args.replica n past)
     (subst (HasPairs new.edges) (c.deref.ensures.value ∙ sym c.keep.ensures.last)
     (has_pairs c.args.label c.deref.result.now new.edges adds.all))
