@@ -356,7 +356,7 @@ newest_or_before : (b : Bool) (newest : Command) (before upto : Records) (label 
 newest_or_before true newest before upto label further there = there
 newest_or_before false newest before upto label further there = further there
 
-labels_to : (records : Records) (n : ℕ) (label : Label) → Contains (labels_of (records_to records n)) label
+pub labels_to : (records : Records) (n : ℕ) (label : Label) → Contains (labels_of (records_to records n)) label
     → Contains (labels_of records) label
 labels_to [] n label there = there
 labels_to (Operate by op clock ∷ before) n label there =

@@ -41,6 +41,12 @@ pub mod ListUpdates
 pub mod AmongParts
 pub mod ListsInAnyOrder
 pub mod AnyOrder
+pub mod ListedOrders
+pub mod PartEdges
+pub mod OrderedParts
+pub mod OrderedLists
+pub mod ListedElements
+pub mod ListVerdicts
 pub mod Arrivals
 pub mod NewLabels
 pub mod ElementsBetween

@@ -62,7 +62,7 @@ once_put before behind u x s led here =
     )
 
 -- each element that an admitted update needs is inserted by one of the updates
-needs_put : (us : List ListUpdate) (s : ListState) (u : ListUpdate) (x : ℕ) → list_state_after us ≡ Some s
+pub needs_put : (us : List ListUpdate) (s : ListState) (u : ListUpdate) (x : ℕ) → list_state_after us ≡ Some s
     → Contains us u → Needs u x → Puts x us
 needs_put us s u x led there needs =
     let (before, behind, split) = split_at us u there in
@@ -82,10 +82,10 @@ needs_put us s u x led there needs =
 -- ---- parts that insert an element
 
 -- holds if the part inserts the element
-abbrev Inserts : Part → ℕ → Type 0
+abbrev pub Inserts : Part → ℕ → Type 0
 Inserts p x = (insertion : Insertion) × (p.act ≡ Does (updates.List (Put insertion))) × (insertion.element ≡ x)
 
-inserting_part : (ps : List Part) (x : ℕ) → Puts x (changes_in ps) → (p : Part) × Contains ps p × Inserts p x
+pub inserting_part : (ps : List Part) (x : ℕ) → Puts x (changes_in ps) → (p : Part) × Contains ps p × Inserts p x
 inserting_part ps x (insertion, there, is) =
     let (p, found, maps) = mapped_from change_in ps (Put insertion) there in
     (p, found, (insertion, change_does p (Put insertion) maps, is))

@@ -187,11 +187,11 @@ pub updates-exactly : (kind : Kind) (sequence : List Part)
     → Decides (updates_admitted kind sequence) ((state : State) × (state_after kind (updates_of sequence) ≡ Some state))
 updates-exactly kind sequence = some-exactly (state_after kind (updates_of sequence))
 
-answered : (state : Option State) (query : Query) → Decides (option_map_or (λ s. answers s query) state false)
-    ((s : State) × (state ≡ Some s) × (answers s query ≡ true))
-answered None query = (λ is. absurd (false≢true is), λ known. absurd (none-some known.0 known.1))
-answered (Some s) query =
-    (λ is. (s, refl, is), λ known. subst (λ t. answers t query ≡ true) (sym (same_Some s known.0 known.1)) known.2)
+pub answered : (test : State → Bool) (state : Option State) → Decides (option_map_or test state false)
+    ((s : State) × (state ≡ Some s) × (test s ≡ true))
+answered test None = (λ is. absurd (false≢true is), λ known. absurd (none-some known.0 known.1))
+answered test (Some s) =
+    (λ is. (s, refl, is), λ known. subst (λ t. test t ≡ true) (sym (same_Some s known.0 known.1)) known.2)
 
 asked : (test : Query → Bool) (act : Act)
     → Decides (option_map_or test (query_of act) true) ((query : Query) → act ≡ Asks query → test query ≡ true)
@@ -209,11 +209,11 @@ queries-exactly kind records sequence =
       (λ pass part query there asks.
           let passes = All-contains (λ p. is_query_admitted kind records sequence p ≡ true) sequence part
           (AllPass-from_list_all (is_query_admitted kind records sequence) sequence pass) there in
-          (answered (state_after kind (seen part)) query).0
+          (answered (λ s. answers s query) (state_after kind (seen part))).0
           ((asked (is_answered_after kind (seen part)) part.act).0 passes query asks)),
       (λ each. list_all-from_contains (is_query_admitted kind records sequence) sequence (λ part there.
           (asked (is_answered_after kind (seen part)) part.act).1
-          (λ query asks. (answered (state_after kind (seen part)) query).1 (each part query there asks)))),
+          (λ query asks. (answered (λ s. answers s query) (state_after kind (seen part))).1 (each part query there asks)))),
     )
 
 -- updates stand in the order of the sequence

@@ -65,6 +65,15 @@ pub use Rattle.ra_theorems.proofs.AnyOrder.{named-where_any as named_sequence_co
 pub use Rattle.ra_theorems.proofs.AnyOrder.{by_visibility as linearization_by_visibility}
 pub use Rattle.ra_theorems.proofs.AnyOrder.{no-final as violation_is_final}
 pub use Rattle.ra_theorems.proofs.AnyOrder.{none_where_final as final_excludes_linearization}
+-- theorems::ordered_lists
+pub use Rattle.ra_theorems.proofs.OrderedLists.{linearization_decided as order_decides_linearization}
+pub use Rattle.ra_theorems.proofs.ListVerdicts.{linearizes_iff_some as linearization_iff_some_order}
+pub use Rattle.ra_theorems.proofs.ListVerdicts.{holds_iff_some as list_holds_iff_some_order-named}
+pub use Rattle.ra_theorems.proofs.ListVerdicts.{holds_iff_any as list_holds_iff_some_order-any}
+pub use Rattle.ra_theorems.proofs.ListVerdicts.{no_fault_iff_one as no_fault_iff_one_order}
+pub use Rattle.ra_theorems.proofs.ListVerdicts.{violation_excludes as list_violation_excludes_orders-fault}
+pub use Rattle.ra_theorems.proofs.ListVerdicts.{final_iff_no_order as list_violation_excludes_orders-finality}
+pub use Rattle.ra_theorems.proofs.ListVerdicts.{same_read as same_updates_same_read}
 -- theorems::one_step
 pub use Rattle.ra_theorems.proofs.Deliveries.{clash-exactly as clash_iff_removal_of_added_pair}
 pub use Rattle.ra_theorems.proofs.Deliveries.{removal-sees as or_removal_sees_removed_pairs}

@@ -1,4 +1,5 @@
 pub mod AnyOrder
+pub mod OrderedLists
 pub mod Counters
 pub mod Worked
 pub mod WorkedTimestamps

@@ -14,6 +14,7 @@ pub mod late;
 pub mod linearization;
 pub mod one_step;
 pub mod or_set;
+pub mod ordered_lists;
 pub mod overriding;
 pub mod passing;
 pub mod records;
