@@ -5,4 +5,5 @@ pub mod Answered
 pub mod Legal
 pub mod NewEntries
 pub mod LogTheorems
+pub mod Cycles
 pub mod Trials

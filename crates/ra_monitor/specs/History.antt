@@ -1,9 +1,13 @@
 -- The past that the fields of a history represent.
-use Rattle.std.specs.Prelude.{◌≡◌, ℕ, ◌<◌, ◌∷◌, Option, None, vec_len}
+use Rattle.std.specs.Prelude.{◌≡◌, ℕ, ◌<◌, ◌∷◌, Option, Some, None, vec_len}
+use Rattle.std.specs.Global as global
+use Rattle.ra_labels.specs.declared.edge.Edge.{Edge}
+use Rattle.ra_labels.specs.declared.kind.Kind.{Kind}
 use Rattle.ra_labels.specs.declared.command.Command.{Command}
 use Rattle.ra_labels.specs.declared.command.Command.TheVariants.{Join}
 use Rattle.ra_labels.specs.declared.refusal.Refusal.{Refusal}
 use Rattle.ra_labels.specs.declared.reply.Reply.{Reply}
+use Rattle.ra_labels.specs.declared.reply.Fault.{Fault}
 use Rattle.ra_labels.specs.declared.label.Label.{Label}
 use Rattle.ra_labels.specs.Records.{Records, label_count}
 use Rattle.ra_labels.specs.Visibility.{IsCausal}
@@ -12,6 +16,7 @@ use Rattle.ra_labels.specs.Answer.{form_refusal, answer_of, records_after}
 use Rattle.ra_labels.specs.HistorySoFar.{History, history_of, replicas_of, history_with, IsAccepted, NextOperation, operate, label_of}
 use Rattle.ra_visibility.specs.Tracked.{IsVisibilityOf}
 use Rattle.ra_visibility.specs.declared.limits.TheConstants.{MOST_LABELS}
+use Rattle.ra_witness.specs.Failure.{ShowsCycle}
 use Rattle.ra_witness.specs.Witness.{IsWitnessOf}
 use Rattle.ra_monitor.specs.declared.setup.Setup.{Setup}
 use Rattle.ra_monitor.specs.declared.history.TrackedHistory.{TrackedHistory}
@@ -36,6 +41,12 @@ JoinsRecords past command = records_after past.kind past.initial_replicas past.r
 abbrev pub before_fault : History → History
 before_fault past = history_of past.kind past.initial_replicas (records_before_fault past.kind past.records)
 
+-- Holds if a cycle is given exactly if the kind is a list and there is a fault whose cause is the order. Its edges are
+-- among those that the labels require.
+abbrev pub KeepsCycle : Kind → Records → Option Fault → Option (global.Vec Edge) → Type 0
+KeepsCycle kind records None cycle = cycle ≡ None
+KeepsCycle kind records (Some fault) cycle = ShowsCycle kind records fault.cause cycle
+
 -- holds if the history represents the past
 pub record Represents (history : TrackedHistory) (past : History) : Type 0 where
   -- what was delivered to each replica, and what each label sees
@@ -50,6 +61,7 @@ pub record Represents (history : TrackedHistory) (past : History) : Type 0 where
   -- clocks are kept for each replica
   pub places : vec_len history.taken.clocks ≡ replicas_of past
   pub fault : history.fault ≡ fault_of past.kind past.records
+  pub cycle : KeepsCycle past.kind past.records history.fault history.cycle
 
 -- holds if the reply is the answer to the command, and the history represents the past after the command
 abbrev pub IsAnswered : TrackedHistory → History → Command → Reply → Type 0
@@ -70,6 +82,7 @@ pub record HasNewest (history : TrackedHistory) (past : History) (next : NextOpe
   pub taken : AreUsedKeysOf past.records history.taken
   pub places : vec_len history.taken.clocks ≡ replicas_of past
   pub fault : history.fault ≡ None
+  pub cycle : history.cycle ≡ None
   pub none : fault_of past.kind past.records ≡ None
   pub accepted : IsAccepted past (operate next)
   pub becomes : label ≡ label_of past.records next

@@ -2,10 +2,12 @@
 use Rattle.std.specs.Prelude.{◌≡◌, ℕ, List, [], map, count_by, Option, Some, option_map, ◌↔◌}
 use Rattle.ra_journal.specs.declared.entry.Entry.{Entry}
 use Rattle.ra_journal.specs.Log.{IsLegal, IsAboveLast}
+use Rattle.ra_labels.specs.declared.kind.Kind.TheVariants as kinds
 use Rattle.ra_labels.specs.declared.command.Command.{Command}
 use Rattle.ra_labels.specs.declared.reply.Reply.{Reply}
 use Rattle.ra_labels.specs.declared.reply.Reply.TheVariants.{No}
 use Rattle.ra_labels.specs.declared.reply.Cause.{Cause}
+use Rattle.ra_labels.specs.declared.reply.Cause.TheVariants as cause
 use Rattle.ra_labels.specs.declared.reply.Fault.{Fault}
 use Rattle.ra_labels.specs.Records.{Records}
 use Rattle.ra_labels.specs.Rewriting.{Part}
@@ -54,6 +56,11 @@ fault_in setup log = fault_of setup.kind (records_of setup log)
 -- the label of the fault of a log, if it has one
 abbrev pub fault_label_in : Setup → List MonitorEntry → Option ℕ
 fault_label_in setup log = option_map (λ fault. fault.label) (fault_in setup log)
+
+-- holds if the log is that of a list, and its fault is the order
+abbrev pub IsOrderFault : Setup → List MonitorEntry → Type 0
+IsOrderFault setup log =
+    (setup.kind ≡ kinds.List) × (label : ℕ) × (fault_in setup log ≡ Some (fault_at label cause.Order))
 
 abbrev pub refused_count : List MonitorEntry → ℕ
 refused_count log = count_by (λ entry. is_refused entry.reply) log

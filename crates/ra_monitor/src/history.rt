@@ -21,7 +21,9 @@ use crate::order::Order;
 use crate::setup::Setup;
 use crate::used_keys::UsedKeys;
 use crate::used_keys::unique_key::UniqueKey;
-use ra_labels::{Command, Fault, Label, MOST_REPLICAS, NoMemory, Op, Refusal, Reply, Stamp, fits};
+use ra_labels::{
+    Command, Edge, Fault, Label, MOST_REPLICAS, NoMemory, Op, Refusal, Reply, Stamp, fits,
+};
 use ra_visibility::{DeliverFault, Tracker};
 use ra_witness::{PartRef, Witness};
 use std::alloc::Global;
@@ -42,6 +44,8 @@ pub struct TrackedHistory {
     pub taken: UsedKeys,
     /// The first label at which the named order failed.
     pub fault: Option<Fault>,
+    /// If the fault is the order of a list, a cycle of the edges that the labels up to it require.
+    pub cycle: Option<Vec<Edge>>,
 }
 
 impl TrackedHistory {
@@ -65,6 +69,7 @@ impl TrackedHistory {
             witness,
             taken,
             fault: None,
+            cycle: None,
         })
     }
 
@@ -336,22 +341,24 @@ impl TrackedHistory {
         ensures kept { OnErr result (self.new.labels ≡ self.old.labels) }
         ensures taken { OnErr result (self.new.taken ≡ self.old.taken) }
         ensures fault { OnErr result (self.new.fault ≡ self.old.fault) }
+        ensures cycle { OnErr result (self.new.cycle ≡ self.old.cycle) }
     {
         let number = label.number;
         let seen = self.tracker.vis(number);
-        let cause = self.witness.offer(label, &seen)?;
+        let failure = self.witness.offer(label, &seen)?;
         self.labels = number + 1;
-        match cause {
+        match failure {
             None => {
                 self.taken.keep(brought);
                 Ok(Reply::Ok(number))
             }
-            Some(cause) => {
+            Some(failure) => {
                 let fault = Fault {
                     label: number,
-                    cause,
+                    cause: failure.cause,
                 };
                 self.fault = Some(fault);
+                self.cycle = failure.cycle;
                 Ok(no_reply(fault))
             }
         }

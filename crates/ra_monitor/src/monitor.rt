@@ -1,10 +1,13 @@
 //! The single-threaded monitor: a log, and the representation of its history.
 ghost use Rattle.std.specs.Prelude.{◌≡◌, ℕ, ◌+◌, ◌-◌, ◌<◌, ◌≤◌, ◌++◌, ◌∷◌, ◌↔◌, [], length, map, min, cond, vec_len, vec_capacity, IsTrue, IfSome, IfOk, IsOk, OnOk, IsErrOf, MatchOption};
 ghost use Rattle.ra_labels.specs.Records.{label_count, replica_count};
+ghost use Rattle.ra_labels.specs.Edges.{IsCycle};
+ghost use Rattle.ra_labels.specs.ListHistory.{required_edges};
 ghost use Rattle.ra_labels.specs.Visibility.{has_delivered};
-ghost use Rattle.ra_labels.specs.Linearization.{IsRaLinearization};
+ghost use Rattle.ra_labels.specs.Linearization.{must_precede, IsRaLinearization};
 ghost use Rattle.ra_labels.specs.NamedOrder.{named_sequence};
 ghost use Rattle.ra_theorems.specs.AnyOrder.{is_of_any_order};
+ghost use Rattle.ra_theorems.specs.OrderedLists.{IsListLinearization};
 ghost use Rattle.ra_monitor.specs.Limits.{AreReplicas, IsLimit};
 ghost use Rattle.ra_journal.specs.Log.{last_ticket_of};
 ghost use Rattle.ra_labels.specs.declared.kind.Kind.TheVariants as kinds;
@@ -18,7 +21,7 @@ use crate::history::TrackedHistory;
 use crate::report::Report;
 use crate::setup::Setup;
 use ra_journal::{Entry, Journal, MOST_ENTRIES, StepFault};
-use ra_labels::{Command, Kind, MOST_REPLICAS, NoMemory, Reply};
+use ra_labels::{Command, Edge, Kind, MOST_REPLICAS, NoMemory, Reply};
 use ra_witness::PartRef;
 use std::alloc::Global;
 use std::marker::Model;
@@ -56,7 +59,7 @@ impl Drop for Monitor {
 }
 
 impl Monitor {
-    ghost use Rattle.ra_monitor.specs.Monitor.{records_of, records_before_fault_in, fault_in, refused_count, IsLegalLog, IsFinalFault};
+    ghost use Rattle.ra_monitor.specs.Monitor.{records_of, records_before_fault_in, fault_in, refused_count, IsLegalLog, IsFinalFault, IsOrderFault};
 
     /// Creates a monitor of a history of this kind, with the given number of initial replicas and the largest number of
     /// entries of its log.
@@ -253,8 +256,34 @@ impl Monitor {
         ensures explains { let records = records_before_fault_in self.now.setup self.now.log in
             IfOk result (λ found. MatchOption found (¬ (self.now.setup.kind ≡ kinds.List))
             (λ order. (self.now.setup.kind ≡ kinds.List) × Explains order.items records)) }
+        // For this order, the named sequence of these labels is an RA-linearization by the specification of a list.
+        ensures linearizes { let records = records_before_fault_in self.now.setup self.now.log in
+            IfOk result (λ found. IfSome found (λ order. IsListLinearization order.items (must_precede records) records
+            (named_sequence kinds.List records))) }
     {
         self.history.list_order()
+    }
+
+    /// Returns a cycle of the edges that the labels require, if the kind is a list and the fault's cause is the order,
+    /// and `None` otherwise. No order of the elements extends it (`no_order_extends_cycle` of `ra_list_order`), so none
+    /// explains the labels up to the fault. Each edge has a label that requires it. Another cycle may be shorter:
+    /// `ra_explain` searches for a shortest one. Does not allocate.
+    ///
+    /// # Complexity
+    ///
+    /// O(1).
+    pub fn cycle(&self) -> Option<&[Edge]>
+        // The result is a cycle exactly if the kind is a list and the fault's cause is `Order`. Its edges are among
+        // those that the labels up to the fault require. Each ends where the next one begins, and the last one where
+        // the first begins.
+        ensures shows { MatchOption result (¬ IsOrderFault self.now.setup self.now.log)
+            (λ cycle. IsOrderFault self.now.setup self.now.log
+            × IsCycle (required_edges (records_of self.now.setup self.now.log)) cycle.now) }
+    {
+        match &self.history.cycle {
+            Some(cycle) => Some(cycle.as_slice()),
+            None => None,
+        }
     }
 
     /// Returns the summary of the log. Does not allocate.

@@ -1,7 +1,7 @@
-//! The order of a list's elements that a monitor returns.
+//! The order of a list's elements that a monitor returns, and the cycle where there is none.
 
 use crate::commands::{elements_of, is_told, list_order_of, reporter_of};
-use ra_labels::{Cause, Command, Insertion, Kind, ListOp, Op, Reply};
+use ra_labels::{Cause, Command, Edge, Insertion, Kind, ListOp, Op, Reply};
 use ra_monitor::Reporter;
 use std::process::Abort;
 use std::test::Fail;
@@ -53,6 +53,55 @@ fn a_list_has_an_order_up_to_its_fault(rt: HostRuntime) -> Result<(), Fail> {
     Ok(())
 }
 
+fn edge(before: u32, after: u32, label: u32) -> Edge {
+    Edge {
+        before,
+        after,
+        label,
+    }
+}
+
+#[test]
+fn a_list_without_an_order_has_a_cycle(rt: HostRuntime) -> Result<(), Fail> {
+    let alloc = rt.alloc();
+    let mut list = reporter_of(&rt, alloc, Kind::List, 1, 100);
+    is_told(&rt, &mut list, insert(0, 7, 0), Reply::Ok(0));
+    is_told(&rt, &mut list, insert(0, 4, 7), Reply::Ok(1));
+    is_told(&rt, &mut list, insert(4, 9, 7), Reply::Ok(2));
+    assert!(rt; list.monitor().cycle().is_none());
+    let wrong = operate(ListOp::Read(elements_of(&rt, alloc, &[4, 7, 9])));
+    let no = Reply::No {
+        label: 3,
+        cause: Cause::Order,
+    };
+    is_told(&rt, &mut list, wrong, no);
+    // The only cycle of the edges, wherever it begins.
+    match list.monitor().cycle() {
+        Some(cycle) => {
+            assert_eq!(rt; cycle.len(), 2);
+            assert!(rt; cycle.contains(&edge(9, 7, 2)));
+            assert!(rt; cycle.contains(&edge(7, 9, 3)));
+        }
+        None => panic!(rt; "no cycle"),
+    }
+    Ok(())
+}
+
+#[test]
+fn a_wrong_answer_of_a_list_has_no_cycle(rt: HostRuntime) -> Result<(), Fail> {
+    let alloc = rt.alloc();
+    let mut list = reporter_of(&rt, alloc, Kind::List, 1, 100);
+    is_told(&rt, &mut list, insert(0, 7, 0), Reply::Ok(0));
+    let wrong = operate(ListOp::Read(elements_of(&rt, alloc, &[7, 9])));
+    let no = Reply::No {
+        label: 1,
+        cause: Cause::Query,
+    };
+    is_told(&rt, &mut list, wrong, no);
+    assert!(rt; list.monitor().cycle().is_none());
+    Ok(())
+}
+
 #[test]
 fn other_kinds_have_no_order(rt: HostRuntime) -> Result<(), Fail> {
     for kind in [
@@ -64,6 +113,7 @@ fn other_kinds_have_no_order(rt: HostRuntime) -> Result<(), Fail> {
     ] {
         let reporter = reporter_of(&rt, rt.alloc(), kind, 1, 100);
         assert!(rt; list_order_of(&rt, reporter.monitor()).is_none());
+        assert!(rt; reporter.monitor().cycle().is_none());
     }
     Ok(())
 }

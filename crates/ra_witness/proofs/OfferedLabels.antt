@@ -1,10 +1,13 @@
 -- Lemmas on the past that a witness represents after one more label, delivery or replica.
-use Rattle.std.proofs.Common.{◌≡◌, ℕ, ◌<◌, Bool, true, false, cond, List, ◌∷◌, length, Option, Some, None, refl, sym, ap, ◌∙◌, subst, arith}
-use Rattle.std.specs.Prelude.{◌&&◌, ◌||◌, not, is_some, option_map, IfSome, MatchOption}
+use Rattle.std.proofs.Common.{◌≡◌, ℕ, ◌<◌, Bool, true, false, cond, List, ◌∷◌, length, Option, Some, None, Result, Ok, Err, refl, sym, ap, ◌∙◌, subst, arith}
+use Rattle.std.specs.Prelude.{◌&&◌, ◌||◌, not, is_some, option_map, IfOk, OnErr, MatchResult}
 use Rattle.std.specs.Option.{option_or, option_to_list}
+use Rattle.std.specs.Global as global
 use Rattle.std.proofs.lemmas.List.{length-map}
 use Rattle.std.proofs.lemmas.List.Sorted.{length_permutation}
 use Rattle.ra_labels.specs.declared.kind.Kind.{Kind}
+use Rattle.ra_labels.specs.declared.kind.Kind.TheVariants as kinds
+use Rattle.ra_labels.specs.declared.edge.Edge.{Edge}
 use Rattle.ra_labels.specs.declared.operation.Op.{Op}
 use Rattle.ra_labels.specs.declared.label.Label.{Label}
 use Rattle.ra_labels.specs.declared.command.Command.{Command}
@@ -16,20 +19,22 @@ use Rattle.ra_labels.specs.declared.operation.Update.{Update}
 use Rattle.ra_labels.specs.declared.limits.TheConstants.{MOST_REPLICAS}
 use Rattle.ra_labels.specs.Records.{Records, label_count, labels_of}
 use Rattle.ra_labels.specs.Rewriting.{Half, Act, acts_of}
-use Rattle.ra_labels.specs.Linearization.{extends_visibility, updates_admitted}
-use Rattle.ra_labels.specs.NamedOrder.{named_labels, named_sequence}
+use Rattle.ra_labels.specs.Linearization.{extends_visibility, updates_admitted, queries_admitted}
+use Rattle.ra_labels.specs.NamedOrder.{named_labels, named_sequence, rank_of}
 use Rattle.ra_labels.specs.Fault.{fault_of, fault_at, sequence_cause, cause_of}
 use Rattle.ra_labels.specs.ListHistory.{keeps_an_order}
 use Rattle.ra_labels.specs.Answer.{refusal_of, records_after, with_accepted}
 use Rattle.ra_labels.proofs.Counted.{labels_counted}
 use Rattle.ra_labels.specs.HistorySoFar.{History, replicas_of, history_with, IsAccepted, NextOperation, operate, label_of}
-use Rattle.ra_theorems.proofs.TheoremIndex.{fault_none_implies_holds, named_labels_sorted-same, operation_accepted_iff, stamps_unique-one, identifiers_unique-one, accepted_labels_well_formed-one, delivery_accepted_iff_causal, join_accepted_iff, nothing_delivered_before_join-one, sequence_cause_none_iff}
+use Rattle.ra_theorems.proofs.TheoremIndex.{fault_none_implies_holds, named_labels_sorted-same, operation_accepted_iff, stamps_unique-one, identifiers_unique-one, accepted_labels_well_formed-one, delivery_accepted_iff_causal, join_accepted_iff, nothing_delivered_before_join-one, sequence_cause_none_iff, execution_order_extends_visibility-labels}
 use Rattle.ra_visibility.specs.declared.order.Place.{Place}
 use Rattle.ra_visibility.specs.declared.limits.TheConstants.{MOST_LABELS}
 use Rattle.ra_visibility.specs.Seen.{Seen}
 use Rattle.ra_visibility.specs.Order.{IsPlaceOf, numbers_in, ComesNext}
 use Rattle.ra_visibility.proofs.TheoremIndex.{extends_visibility_iff_label_fits}
+use Rattle.ra_witness.specs.declared.failure.Failure.{Failure}
 use Rattle.ra_witness.specs.declared.witness.Witness.{Witness}
+use Rattle.ra_witness.specs.Failure.{IsCycleIn, ShowsCycle}
 use Rattle.ra_witness.specs.Labels.{updates_in, head_of, update_in}
 use Rattle.ra_witness.specs.Offered.{IsOffered, IsDelivered, IsJoinedFrom}
 use Rattle.ra_witness.specs.Effects.{AreEffectsOf}
@@ -59,6 +64,43 @@ order_fails kind records next place none is said =
   where
     by_order : (k : Kind) (rs : Records) → extends_visibility rs (named_sequence k rs) ≡ false → cause_of k rs ≡ Some cause.Order
     by_order k rs fails = rw fails refl
+
+-- the sequence of a list extends visibility, as every execution order does
+list_extends : (kind : Kind) (records : Records) → kind ≡ kinds.List
+    → extends_visibility records (named_sequence kind records) ≡ true
+list_extends kind records list =
+    execution_order_extends_visibility-labels kind records (λ label. ap (λ k. rank_of k records label) list)
+
+-- so each label of a list fits
+pub fits_in_a_list : (kind : Kind) (records : Records) (next : NextOperation) (place : Place)
+    → fault_of kind records ≡ None → IsPlaceOf kind records next place → kind ≡ kinds.List → place.fits ≡ true
+fits_in_a_list kind records next place none is list =
+    sym (extends_where kind records next place place.fits none is refl)
+    ∙ list_extends kind (operate next ∷ records) list
+
+no_order : (updates queries : Bool)
+    → ¬ (Some cause.Order ≡ cond (not updates) (Some cause.Update) (cond (not queries) (Some cause.Query) None))
+no_order false queries e = cc (e)
+no_order true false e = cc (e)
+no_order true true e = cc (e)
+
+-- and no condition of its sequence fails for the order
+pub not_for_order : (kind : Kind) (records : Records) (why : Cause) → Some why ≡ sequence_cause kind records
+    → kind ≡ kinds.List → ¬ (why ≡ cause.Order)
+not_for_order kind records why is list order =
+    no_order (updates_admitted kind (named_sequence kind records)) (queries_admitted kind records (named_sequence kind records))
+    (rw (list_extends kind records list) at (ap Some (sym order) ∙ is))
+
+module _ (kind : Kind) (records : Records) (failure : Failure) where
+  -- a failure without a cycle, which is none for the order of a list
+  pub shown_by_none : failure.cycle ≡ None → (kind ≡ kinds.List → ¬ (failure.cause ≡ cause.Order))
+      → ShowsCycle kind records failure.cause failure.cycle
+  shown_by_none none never = subst (ShowsCycle kind records failure.cause) (sym none) never
+
+  -- a failure with a cycle
+  pub shown_by_it : (cycle : global.Vec Edge) → failure.cause ≡ cause.Order → failure.cycle ≡ Some cycle
+      → IsCycleIn kind records cycle.items → ShowsCycle kind records failure.cause failure.cycle
+  shown_by_it cycle order some closed = subst (ShowsCycle kind records failure.cause) (sym some) (order, closed)
 
 -- a command that is not refused is recorded
 accepted_after : (past : History) (command : Command) → fault_of past.kind past.records ≡ None → IsAccepted past command
@@ -98,17 +140,20 @@ pub cause_of_elements : (kind : Kind) (records : Records) (keeps : Bool) → Non
 cause_of_elements kind records keeps is known =
     sym (ap (λ b. cond b None (Some cause.Order)) known) ∙ ap (λ o. option_or o (cond (keeps_an_order kind records) None (Some cause.Order))) is
 
--- what holds of a case of an option
-pub in_some : {A : Type 0} (P : Type 0) (Q : A → Type 0) (o : Option A) (x : A) → o ≡ Some x → MatchOption o P Q → Q x
-in_some P Q o x is both = subst (λ a. MatchOption a P Q) is both
+-- what holds of a case of a result
+module _ {A E : Type 0} (P : A → Type 0) (Q : E → Type 0) (r : Result A E) where
+  pub in_ok : (x : A) → r ≡ Ok x → MatchResult r P Q → P x
+  in_ok x is both = subst (λ a. MatchResult a P Q) is both
 
-pub in_some_part : {A : Type 0} (Q : A → Type 0) (o : Option A) (x : A) → o ≡ Some x → IfSome o Q → Q x
-in_some_part Q o x is part = subst (λ a. IfSome a Q) is part
+  pub in_err : (y : E) → r ≡ Err y → MatchResult r P Q → Q y
+  in_err y is both = subst (λ a. MatchResult a P Q) is both
 
-pub in_none : {A : Type 0} (P : Type 0) (Q : A → Type 0) (o : Option A) → ((x : A) → o ≡ Some x → ⊥)
-    → MatchOption o P Q → P
-in_none P Q None none both = both
-in_none P Q (Some x) none both = absurd (none x refl)
+module _ {A E : Type 0} (r : Result A E) where
+  pub in_ok_part : (P : A → Type 0) (x : A) → r ≡ Ok x → IfOk r P → P x
+  in_ok_part P x is part = subst (λ a. IfOk a P) is part
+
+  pub in_err_part : (P : Type 0) (y : E) → r ≡ Err y → OnErr r P → P
+  in_err_part P y is part = subst (λ a. OnErr a P) is part
 
 pub same_op : (label : Label) (records : Records) (next : NextOperation) → label ≡ label_of records next → acts_of label.op ≡ acts_of next.op
 same_op label records next is = ap (λ (l : Label). acts_of l.op) is

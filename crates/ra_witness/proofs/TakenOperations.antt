@@ -304,9 +304,14 @@ module _ (past : Past) (initial_replicas : ℕ) (records : Records) (next : Next
         ap is_some (list_order_there order (inserted_elements now) (required_edges now) once
         (subst (Extends order) edges_now extends) (λ x there. all x ((inserted_now x).1 there))).1
 
+    -- a cycle of the edges is one of those that the labels require
+    pub cycle_now : (cycle : List Edge) → IsCycle (past.edges ++ its.edges_of label.number operation) cycle
+        → IsCycle (required_edges now) cycle
+    cycle_now cycle closed = subst (λ es. IsCycle es cycle) edges_now closed
+
     -- a cycle of the edges leaves no order
     pub unexplained : (cycle : List Edge) → IsCycle (past.edges ++ its.edges_of label.number operation) cycle
         → keeps_an_order kinds.List now ≡ false
     unexplained cycle closed =
-        ap is_some (no_list_order (required_edges now) cycle (subst (λ es. IsCycle es cycle) edges_now closed)
-        (inserted_elements now) (λ edge there. (inserted_now edge.before).0 (begins_now edge (closed.among edge there))))
+        ap is_some (no_list_order (required_edges now) cycle (cycle_now cycle closed) (inserted_elements now)
+        (λ edge there. (inserted_now edge.before).0 (begins_now edge (closed.among edge there))))

@@ -8,6 +8,7 @@ pub mod Overridden
 pub mod Rga
 pub mod KeptList
 pub mod ListOrder
+pub mod Failure
 pub mod Settled
 pub mod Offered
 pub mod Effects

@@ -1,5 +1,5 @@
 //! The effects of labels and the states of replicas, represented by how a kind treats late updates.
-ghost use Rattle.std.specs.Prelude.{◌≡◌, ℕ, ◌+◌, ◌≤◌, ◌++◌, ◌∷◌, true, false, List, length, None, IfOk, IfSome, OnOk, OnErr, MatchOption};
+ghost use Rattle.std.specs.Prelude.{◌≡◌, ℕ, ◌+◌, ◌≤◌, ◌++◌, ◌∷◌, true, false, List, length, None, IfOk, OnOk, OnErr, MatchOption, MatchResult};
 ghost use Rattle.std.specs.Result.{result_err};
 ghost use Rattle.std.specs.List.{slice_get};
 ghost use Rattle.std.specs.Option.{option_to_list};
@@ -21,6 +21,7 @@ ghost use Rattle.ra_rewrite.specs.Parts.{acts_in};
 ghost use Rattle.ra_witness.specs.Labels.{update_in, updates_in, updates_by_number};
 ghost use Rattle.ra_witness.specs.States.{steps_of};
 ghost use Rattle.ra_witness.specs.Settled.{SettlesMore};
+ghost use Rattle.ra_witness.specs.Failure.{IsCycleIn};
 ghost use Rattle.ra_witness.specs.ListOrder.{Explains};
 ghost use Rattle.ra_witness.specs.Sequence.{has_query_half};
 ghost use Rattle.ra_witness.specs.Offered.{IsOffered, IsDelivered, IsJoinedFrom};
@@ -30,7 +31,7 @@ use crate::commuting::Commuting;
 use crate::kept_list::KeptList;
 use crate::overriding::Overriding;
 use crate::rga::{self, Rga};
-use ra_labels::{Cause, Kind, Label, NoMemory, Update};
+use ra_labels::{Cause, Edge, Kind, Label, NoMemory, Update};
 use ra_list_effects::Found as FoundInList;
 use ra_rewrite::Parts;
 use std::alloc::Global;
@@ -146,41 +147,48 @@ impl Effects {
         }
     }
 
-    /// Adds the next label, with what its test found, and returns the number of steps, at most 1. Returns `None`, and
-    /// the same history is represented, if no order of the elements of a list explains it with the label.
+    /// Adds the next label, with what its test found, and returns the number of steps, at most 1. If no order of the
+    /// elements of a list explains it with the label, returns a cycle of the edges that the labels require, and the
+    /// same history is represented.
     ///
     /// # Errors
     ///
     /// `NoMemory` if allocation fails; the same history is represented.
-    pub fn add(&mut self, label: &Label, admitted: Admitted) -> Result<Option<u64>, NoMemory>
+    pub fn add(
+        &mut self,
+        label: &Label,
+        admitted: Admitted,
+    ) -> Result<Result<u64, Vec<Edge>>, NoMemory>
         requires may { MayAdd self.old label.now admitted.update }
         requires found { IsFoundIn self.old label.now admitted.found }
         ensures taken { (past : History) (next : NextOperation) → AreEffectsOf self.old past
             → IsOffered past next label.now
             → sequence_cause past.kind (operate next ∷ past.records) ≡ None
             → admitted.update ≡ update_in next.op
-            → IfOk result (λ added. MatchOption added
-            (AreEffectsOf self.new past × (keeps_an_order past.kind (operate next ∷ past.records) ≡ false))
+            → IfOk result (λ added. MatchResult added
             (λ steps. AreEffectsOf self.new (history_with past (operate next))
-            × (keeps_an_order past.kind (operate next ∷ past.records) ≡ true))) }
+            × (keeps_an_order past.kind (operate next ∷ past.records) ≡ true))
+            (λ cycle. AreEffectsOf self.new past
+            × (keeps_an_order past.kind (operate next ∷ past.records) ≡ false)
+            × IsCycleIn past.kind (operate next ∷ past.records) cycle.items)) }
         ensures unchanged { (past : History) → AreEffectsOf self.old past
-            → IfOk result (λ added. MatchOption added (AreEffectsOf self.new past) (λ steps. Unit {0})) }
-        ensures step { IfOk result (λ added. IfSome added (λ steps. steps ≤ 1)) }
+            → IfOk result (λ added. OnErr added (AreEffectsOf self.new past)) }
+        ensures step { IfOk result (λ added. IfOk added (λ steps. steps ≤ 1)) }
         ensures counted { (past : History) → AreEffectsOf self.old past → ¬ (past.kind ≡ kinds.Rga)
-            → IfOk result (λ added. IfSome added (λ steps. steps ≡ steps_of admitted.update)) }
+            → IfOk result (λ added. IfOk added (λ steps. steps ≡ steps_of admitted.update)) }
         ensures settled { (past : History) (next : NextOperation) → AreEffectsOf self.old past
             → IsOffered past next label.now
             → updates_admitted past.kind (named_sequence past.kind (operate next ∷ past.records)) ≡ true
             → past.kind ≡ kinds.Rga
-            → IfOk result (λ added. IfSome added (SettlesMore past.records (operate next) next.by)) }
+            → IfOk result (λ added. IfOk added (SettlesMore past.records (operate next) next.by)) }
         ensures same { (past : History) → AreEffectsOf self.old past → OnErr result (AreEffectsOf self.new past) }
     {
         let Admitted { update, found } = admitted;
         match self {
-            Effects::Commuting(kept) => Ok(Some(kept.add(label.replica, update)?)),
-            Effects::Overriding(kept) => Ok(Some(add_write(kept, label, update)?)),
+            Effects::Commuting(kept) => Ok(Ok(kept.add(label.replica, update)?)),
+            Effects::Overriding(kept) => Ok(Ok(add_write(kept, label, update)?)),
             Effects::Rga(kept) => match found {
-                Found::InRga(found) => Ok(Some(kept.add(label, found)?)),
+                Found::InRga(found) => Ok(Ok(kept.add(label, found)?)),
                 _ => unreachable!(),
             },
             Effects::List(kept) => match found {

@@ -1,5 +1,5 @@
 //! The effects of a list's labels: a late update has the effect of the last one, and one order of the elements is kept.
-ghost use Rattle.std.specs.Prelude.{◌≡◌, ℕ, ◌≤◌, ◌∷◌, [], true, false, length, None, IfOk, IfSome, OnOk, OnErr, MatchOption};
+ghost use Rattle.std.specs.Prelude.{◌≡◌, ℕ, ◌≤◌, ◌∷◌, [], true, false, length, None, IfOk, OnOk, OnErr, MatchResult};
 ghost use Rattle.std.specs.List.{slice_get};
 ghost use Rattle.std.specs.Result.{result_err};
 ghost use Rattle.ra_labels.specs.declared.kind.Kind.TheVariants as kinds;
@@ -12,11 +12,12 @@ ghost use Rattle.ra_labels.specs.HistorySoFar.{history_of, NextOperation, operat
 ghost use Rattle.ra_witness.specs.Labels.{update_in, updates_by_number};
 ghost use Rattle.ra_witness.specs.States.{steps_of};
 ghost use Rattle.ra_witness.specs.Sequence.{has_query_half};
+ghost use Rattle.ra_witness.specs.Failure.{IsCycleIn};
 ghost use Rattle.ra_witness.specs.KeptList.{IsListOf, IsFoundFor, MayTake, MayReceive, MayCopy};
 ghost use Rattle.ra_witness.specs.ListOrder.{Explains};
 ghost use Rattle.ra_witness.specs.Offered.{IsOffered, IsDelivered, IsJoinedFrom};
 
-use ra_labels::{Cause, Label, NoMemory, Op};
+use ra_labels::{Cause, Edge, Label, NoMemory, Op};
 use ra_list_effects::{Found, ListEffects};
 use std::alloc::Global;
 
@@ -63,27 +64,29 @@ impl KeptList {
         self.effects.test(alloc, label.replica, op)
     }
 
-    /// Adds the next label, with what its test found, and returns the number of steps: 1 if it has an update. Returns
-    /// `None`, and the same history is represented, if no order of the elements explains it with the label.
+    /// Adds the next label, with what its test found, and returns the number of steps: 1 if it has an update. If no
+    /// order of the elements explains it with the label, returns a cycle of the edges that the labels require, and the
+    /// same history is represented.
     ///
     /// # Errors
     ///
     /// `NoMemory` if allocation fails; the same history is represented.
-    pub fn add(&mut self, label: &Label, found: Found) -> Result<Option<u64>, NoMemory>
+    pub fn add(&mut self, label: &Label, found: Found) -> Result<Result<u64, Vec<Edge>>, NoMemory>
         requires may { MayTake self.old label.now }
         requires found { IsFoundFor self.old label.now found }
         ensures taken { (initial_replicas : ℕ) (records : Records) (next : NextOperation)
             → IsListOf self.old initial_replicas records
             → IsOffered (history_of kinds.List initial_replicas records) next label.now
             → sequence_cause kinds.List (operate next ∷ records) ≡ None
-            → IfOk result (λ added. MatchOption added
-            (IsListOf self.new initial_replicas records × (keeps_an_order kinds.List (operate next ∷ records) ≡ false))
+            → IfOk result (λ added. MatchResult added
             (λ steps. IsListOf self.new initial_replicas (operate next ∷ records)
-            × (keeps_an_order kinds.List (operate next ∷ records) ≡ true))) }
+            × (keeps_an_order kinds.List (operate next ∷ records) ≡ true))
+            (λ cycle. IsListOf self.new initial_replicas records
+            × (keeps_an_order kinds.List (operate next ∷ records) ≡ false)
+            × IsCycleIn kinds.List (operate next ∷ records) cycle.items)) }
         ensures unchanged { (initial_replicas : ℕ) (records : Records) → IsListOf self.old initial_replicas records
-            → IfOk result (λ added. MatchOption added (IsListOf self.new initial_replicas records)
-            (λ steps. Unit {0})) }
-        ensures counted { IfOk result (λ added. IfSome added (λ steps. steps ≡ steps_of (update_in label.now.op))) }
+            → IfOk result (λ added. OnErr added (IsListOf self.new initial_replicas records)) }
+        ensures counted { IfOk result (λ added. IfOk added (λ steps. steps ≡ steps_of (update_in label.now.op))) }
         ensures same { (initial_replicas : ℕ) (records : Records) → IsListOf self.old initial_replicas records
             → OnErr result (IsListOf self.new initial_replicas records) }
     {
@@ -95,11 +98,11 @@ impl KeptList {
             .effects
             .add(alloc, label.replica, op, found, label.number)?
         {
-            Some(_cycle) => Ok(None),
+            Some(cycle) => Ok(Err(cycle)),
             None => {
                 // Some order extends the edges of all labels: it is the order that explains them.
                 self.effects.invariant();
-                Ok(Some(u64::from(op.is_update())))
+                Ok(Ok(u64::from(op.is_update())))
             }
         }
     }

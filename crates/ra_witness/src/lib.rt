@@ -15,12 +15,14 @@
 //!
 //! A replica that joins starts with a copy of the other one's state.
 //!
-//! Contract for the crates above: `Witness::offer` returns the cause of the violation at the new label, and `None`
-//! exactly if there is none. The module `theorems` states what one more label or delivery changes in the witness.
+//! Contract for the crates above: `Witness::offer` returns the cause of the violation at the new label, with a cycle
+//! for the order of a list, and `None` exactly if there is none. The module `theorems` states what one more label or
+//! delivery changes in the witness.
 #![tactic(auto)]
 
 mod commuting;
 mod effects;
+mod failure;
 mod kept_list;
 mod overriding;
 mod part_ref;
@@ -31,5 +33,6 @@ mod states;
 pub mod theorems;
 mod witness;
 
+pub use failure::Failure;
 pub use part_ref::{Half, PartRef};
 pub use witness::Witness;

@@ -1,5 +1,5 @@
 //! The witness: an order of labels, and the state of each replica.
-ghost use Rattle.std.specs.Prelude.{◌≡◌, ℕ, ◌+◌, ◌<◌, ◌≤◌, ◌++◌, ◌∷◌, true, List, length, map, min, Option, None, Ok, IfOk, OnOk, OnErr, MatchOption};
+ghost use Rattle.std.specs.Prelude.{◌≡◌, ℕ, ◌+◌, ◌<◌, ◌≤◌, ◌++◌, ◌∷◌, true, List, length, map, min, Option, None, Ok, option_map, IfOk, IfSome, OnOk, OnErr, MatchOption};
 ghost use Rattle.ra_labels.specs.declared.kind.Kind.{Kind};
 ghost use Rattle.ra_labels.specs.declared.kind.Kind.TheVariants as kinds;
 ghost use Rattle.ra_labels.specs.declared.label.Label.{Label};
@@ -14,11 +14,13 @@ ghost use Rattle.ra_witness.specs.Labels.{update_in};
 ghost use Rattle.ra_witness.specs.States.{steps_of};
 ghost use Rattle.ra_witness.specs.Settled.{SettlesMore};
 ghost use Rattle.ra_witness.specs.Sequence.{ref_of};
+ghost use Rattle.ra_witness.specs.Failure.{ShowsCycle};
 ghost use Rattle.ra_witness.specs.ListOrder.{Explains};
 ghost use Rattle.ra_witness.specs.Witness.{IsWitnessOf, MayOffer, MayDeliver, MayJoin};
 ghost use Rattle.ra_visibility.specs.Order.{ComesNext};
 
 use crate::effects::Effects;
+use crate::failure::Failure;
 use crate::part_ref::PartRef;
 use crate::sequence::part_refs;
 use ra_labels::{Cause, Kind, Label, NoMemory};
@@ -62,7 +64,8 @@ impl<O: NamedOrder> Witness<O> {
     }
 
     /// Adds the next label, with what it sees, by at most one step, and returns `None`. If a condition fails with the
-    /// label, returns the first such condition, and the witness represents the same history as before.
+    /// label, returns the first such condition, and the witness represents the same history as before. If that is the
+    /// order of a list, a cycle that shows it is returned too.
     ///
     /// # Errors
     ///
@@ -74,15 +77,20 @@ impl<O: NamedOrder> Witness<O> {
     /// RGA's insertion is inserted into the list of all elements besides. A replica's array by element number
     /// (`LastUpdates`, or the marks of an RGA) is extended if necessary. For a list that of `ListEffects::test` and
     /// `ListEffects::add`.
-    pub fn offer(&mut self, label: &Label, seen: &Seen<'_>) -> Result<Option<Cause>, NoMemory>
+    pub fn offer(&mut self, label: &Label, seen: &Seen<'_>) -> Result<Option<Failure>, NoMemory>
         // The label comes next after a history that the witness represents and that has fewer than `MOST_LABELS`
         // labels.
         requires { MayOffer O.stands_for self.old label.now seen.now }
-        // If the call succeeds, the result is the first linearization condition that fails with the label, or `None`
-        // exactly if the history with the label has no violation.
+        // If the call succeeds, the result has the first linearization condition that fails with the label, or is
+        // `None` exactly if the history with the label has no violation.
         ensures cause { (past : History) (next : NextOperation) → IsWitnessOf O.stands_for self.old past
-            → ComesNext past next label.now seen.now → IfOk result (λ cause. cause
+            → ComesNext past next label.now seen.now → IfOk result (λ found. option_map (λ failure. failure.cause) found
             ≡ cause_of past.kind (operate next ∷ past.records)) }
+        // If the condition is the order of a list, and only then, the result has a cycle of the edges that the labels
+        // require with this one.
+        ensures cycle { (past : History) (next : NextOperation) → IsWitnessOf O.stands_for self.old past
+            → ComesNext past next label.now seen.now → IfOk result (λ found. IfSome found (λ failure.
+            ShowsCycle past.kind (operate next ∷ past.records) failure.cause failure.cycle)) }
         // If no condition fails, the witness represents the history with the label.
         ensures taken { (past : History) (next : NextOperation) → IsWitnessOf O.stands_for self.old past
             → ComesNext past next label.now seen.now → result ≡ Ok None
@@ -110,17 +118,17 @@ impl<O: NamedOrder> Witness<O> {
     {
         let place = self.order.place(label, seen);
         if !place.fits {
-            return Ok(Some(Cause::Order));
+            return Ok(Some(Failure::of(Cause::Order)));
         }
         let parts = parts(label)?;
         let admitted = match self.kept.admit(label, parts)? {
             Ok(admitted) => admitted,
-            Err(cause) => return Ok(Some(cause)),
+            Err(cause) => return Ok(Some(Failure::of(cause))),
         };
         self.order.spare()?;
         let steps = match self.kept.add(label, admitted)? {
-            Some(steps) => steps,
-            None => return Ok(Some(Cause::Order)),
+            Ok(steps) => steps,
+            Err(cycle) => return Ok(Some(Failure::of_elements(cycle))),
         };
         self.order.put(label, seen, place);
         self.steps = self.steps.saturating_add(steps);

@@ -22,13 +22,14 @@ check_label-answer-requires c =
       witness = self.witness;
       taken = c.reserve.new.self;
       fault = self.fault;
+      cycle = self.cycle;
     } in
     record {
       past = r.past;
       next = next_operation c.args.replica c.args.op.now c.args.clock;
       newest = newest_stands self with_label r.past (next_operation c.args.replica c.args.op.now c.args.clock) c.label_of-label.result c.args.brought r.stands r.none
           (c.in_ok-issue.ensures.stands r.past (next_operation c.args.replica c.args.op.now c.args.clock) r.stands.tracker refl (sym c.is_update.ensures))
-          (c.label_of-label.ensures.next r.past.records r.stands.labels ∙ ap (λ (o : Op). next_label r.past.records c.args.replica o c.args.clock) c.replace.ensures.value) r.brings refl refl refl refl
+          (c.label_of-label.ensures.next r.past.records r.stands.labels ∙ ap (λ (o : Op). next_label r.past.records c.args.replica o c.args.clock) c.replace.ensures.value) r.brings refl refl refl refl refl
           (taken_alike r.past.records self.taken c.reserve.new.self c.reserve.ensures.stamps c.reserve.ensures.identifiers (taken_known self r.past r.stands r.none))
           c.reserve.ensures.replicas r.accepted;
       few = r.few;
@@ -45,11 +46,12 @@ returns-in-Ok-clause-taken c = λ past stands none accepted.
       witness = self.witness;
       taken = c.reserve.new.self;
       fault = self.fault;
+      cycle = self.cycle;
     } in
     c.in-Ok.ensures.answered past (next_operation c.args.replica c.args.op.now c.args.clock)
     (newest_stands self with_label past (next_operation c.args.replica c.args.op.now c.args.clock) c.label_of-label.result c.args.brought stands none
     (c.in_ok-issue.ensures.stands past (next_operation c.args.replica c.args.op.now c.args.clock) stands.tracker refl (sym c.is_update.ensures))
-    (c.label_of-label.ensures.next past.records stands.labels ∙ ap (λ (o : Op). next_label past.records c.args.replica o c.args.clock) c.replace.ensures.value) c.requires.brings refl refl refl refl
+    (c.label_of-label.ensures.next past.records stands.labels ∙ ap (λ (o : Op). next_label past.records c.args.replica o c.args.clock) c.replace.ensures.value) c.requires.brings refl refl refl refl refl
     (taken_alike past.records self.taken c.reserve.new.self c.reserve.ensures.stamps c.reserve.ensures.identifiers (taken_known self past stands none))
     c.reserve.ensures.replicas accepted)
 
@@ -66,4 +68,4 @@ returns-in-Err-clause-err c = λ past stands.
     (c.in-Err.ensures.witness (before_fault past) stands.witness)
     (rw c.in-Err.ensures.taken (taken_alike before self.taken c.reserve.new.self c.reserve.ensures.stamps c.reserve.ensures.identifiers stands.taken))
     (ap (λ (t : UsedKeys). vec_len t.clocks) c.in-Err.ensures.taken ∙ c.reserve.ensures.replicas)
-    c.in-Err.ensures.fault c.in-Err.ensures.replicas
+    c.in-Err.ensures.fault c.in-Err.ensures.cycle c.in-Err.ensures.replicas

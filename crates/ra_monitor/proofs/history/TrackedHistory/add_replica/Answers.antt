@@ -27,6 +27,7 @@ returns-in-Ok-clause-taken c = λ past stands none accepted.
       witness = c.join-2.new.self;
       taken = c.add_replica.new.self;
       fault = old.fault;
+      cycle = old.cycle;
     } in
     let number : replicas_in old.tracker.now ≡ replicas_of past = stands.tracker.replicas in
     let tracker : IsVisibilityOf c.join.new.self.now (history_with past (Join (replicas_of past) from)) =
@@ -38,5 +39,5 @@ returns-in-Ok-clause-taken c = λ past stands none accepted.
           ∙ ap (λ (all : List Clocks). is_clock_in (clocks_at all stamp.replica) stamp.clock) c.reserve_replica.ensures.clocks)
           (λ identifier. ap (λ taken. contains nat_eq taken identifier) (c.add_replica.ensures.identifiers ∙ c.reserve_replica.ensures.identifiers))
           (c.add_replica.ensures.replicas ∙ ap (λ k. k + 1) c.reserve_replica.ensures.replicas)
-          refl refl refl,
+          refl refl refl refl,
     )

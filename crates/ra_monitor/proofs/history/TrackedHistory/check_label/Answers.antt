@@ -1,9 +1,10 @@
 use Rattle.std.proofs.Common.{◌≡◌, ◌∷◌, Some, None, Ok, refl, sym, ap, ◌∙◌, subst, arith}
-use Rattle.std.specs.Prelude.{◌||◌}
+use Rattle.std.specs.Prelude.{◌||◌, option_map}
 use Rattle.ra_labels.specs.declared.label.Label.{Label}
 use Rattle.ra_labels.specs.Records.{label_count}
 use Rattle.ra_labels.specs.Fault.{cause_of}
 use Rattle.ra_labels.specs.HistorySoFar.{operate}
+use Rattle.ra_witness.specs.declared.failure.Failure.{Failure}
 use Rattle.ra_monitor.specs.declared.used_keys.unique_key.UniqueKey.{UniqueKey}
 use Rattle.ra_monitor.specs.UsedKeys.{CanKeep, is_stamp_in, is_identifier_in, key_is_stamp, key_is_identifier}
 use Rattle.ra_monitor.proofs.TakenLookups.{can_keep, taken_more}
@@ -24,15 +25,16 @@ returns-in-None-clause-answered c = λ past next newest.
     let brought = c.args.brought in
     let is : label.number ≡ label_count past.records = ap (λ (l : Label). l.number) newest.becomes in
     let comes = comes_next self past next label brought c.vis-seen.result newest c.vis-seen.ensures.seen in
-    let because : None ≡ cause_of past.kind (operate next ∷ past.records) = sym c.in-None.is ∙ c.in_ok-cause.ensures.cause past next newest.witness comes in
-    let witness = c.in_ok-cause.ensures.taken past next newest.witness comes (ap Ok c.in-None.is) in
+    let because : None ≡ cause_of past.kind (operate next ∷ past.records) =
+    ap (option_map (λ (f : Failure). f.cause)) (sym c.in-None.is) ∙ c.in_ok-failure.ensures.cause past next newest.witness comes in
+    let witness = c.in_ok-failure.ensures.taken past next newest.witness comes (ap Ok c.in-None.is) in
     let free = (operation_accepted_iff past.kind past.initial_replicas past.records next).0 newest.accepted in
     let taken = taken_more past.kind self.taken c.keep.new.self past.records next free.1
     (λ stamp. c.keep.ensures.stamps stamp ∙ ap (λ (b : UniqueKey). key_is_stamp b stamp || is_stamp_in self.taken stamp) newest.brings)
     (λ identifier. c.keep.ensures.identifiers identifier ∙ ap (λ (b : UniqueKey). key_is_identifier b identifier || is_identifier_in self.taken identifier) newest.brings)
     newest.taken in (
       reply_to past.kind past.records next None label.number newest.none because is,
-      stands_taken self _ past next label brought newest because witness taken c.keep.ensures.replicas refl refl refl refl,
+      stands_taken self _ past next label brought newest because witness taken c.keep.ensures.replicas refl refl refl refl refl,
     )
 
 pub returns-in-Some-clause-answered : goal.returns-in-Some-clause-answered
@@ -42,8 +44,11 @@ returns-in-Some-clause-answered c = λ past next newest.
     let brought = c.args.brought in
     let is : label.number ≡ label_count past.records = ap (λ (l : Label). l.number) newest.becomes in
     let comes = comes_next self past next label brought c.vis-seen.result newest c.vis-seen.ensures.seen in
-    let because : Some c.in-Some.cause ≡ cause_of past.kind (operate next ∷ past.records) = sym c.in-Some.is ∙ c.in_ok-cause.ensures.cause past next newest.witness comes in
-    let witness = c.in_ok-cause.ensures.same past newest.witness (λ none. absurd (cc (none, c.in-Some.is))) in (
-      c.no_reply.ensures ∙ reply_to past.kind past.records next (Some c.in-Some.cause) label.number newest.none because is,
-      stands_failed self _ past next label brought c.in-Some.cause newest because witness refl refl refl refl refl,
+    let why = c.in-Some.failure.cause in
+    let because : Some why ≡ cause_of past.kind (operate next ∷ past.records) =
+    ap (option_map (λ (f : Failure). f.cause)) (sym c.in-Some.is) ∙ c.in_ok-failure.ensures.cause past next newest.witness comes in
+    let shown = rw c.in-Some.is at c.in_ok-failure.ensures.cycle past next newest.witness comes in
+    let witness = c.in_ok-failure.ensures.same past newest.witness (λ none. absurd (cc (none, c.in-Some.is))) in (
+      c.no_reply.ensures ∙ reply_to past.kind past.records next (Some why) label.number newest.none because is,
+      stands_failed self _ past next label brought why newest because shown witness refl refl refl refl refl,
     )

@@ -52,12 +52,13 @@ returns-in-Ok-deliver-clause-taken c = λ past stands none.
       witness = c.deliver-2.new.self;
       taken = old.taken;
       fault = old.fault;
+      cycle = old.cycle;
     } in
     let is = tracker_says old past to label stands c.if-replica-self.false ∙ c.in-Ok.ensures.taken in
     accepted past none (Deliver to label) new (reply.Got label) refl is refl
     (stands_delivered old new past to label stands none (c.in-Ok.ensures.stands past stands.tracker)
     (c.in-Ok.ensures.causal past stands.tracker stands.causal)
-    (c.in-Ok-deliver.ensures.delivered past (witness_known old past stands none) is) refl refl refl refl)
+    (c.in-Ok-deliver.ensures.delivered past (witness_known old past stands none) is) refl refl refl refl refl)
 
 pub returns-in-Err-Refused-clause-taken : goal.returns-in-Err-Refused-clause-taken
 returns-in-Err-Refused-clause-taken c = λ past stands none.
@@ -72,6 +73,7 @@ returns-in-Err-Refused-clause-taken c = λ past stands none.
       witness = old.witness;
       taken = old.taken;
       fault = old.fault;
+      cycle = old.cycle;
     } in
     let said = rw c.in-Err-Refused.field-0-is at c.in-Err-Refused.ensures.refused in
     refused past none (Deliver to label) new why
@@ -85,6 +87,7 @@ returns-in-Err-Refused-clause-taken c = λ past stands none.
       taken = stands.taken;
       places = stands.places;
       fault = stands.fault;
+      cycle = stands.cycle;
     }
 
 pub returns-in-Err-clause-joins : goal.returns-in-Err-clause-joins

@@ -13,4 +13,5 @@ returns c =
       taken = record { stamps = c.in_ok-taken.ensures.stamps; identifiers = c.in_ok-taken.ensures.identifiers };
       places = c.in_ok-taken.ensures.replicas;
       fault = refl;
+      cycle = refl;
     }

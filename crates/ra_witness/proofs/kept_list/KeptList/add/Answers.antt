@@ -1,9 +1,9 @@
-use Rattle.std.proofs.Common.{ap, sym, ◌∙◌, arith}
+use Rattle.std.proofs.Common.{refl, ap, sym, ◌∙◌, arith}
 use Rattle.ra_labels.specs.declared.label.Label.{Label}
 use Rattle.ra_list_effects.specs.Past.{with_operation}
 use Rattle.ra_witness.proofs.KeptLists.{elements_few, within}
 use Rattle.ra_witness.proofs.ListCauses.{cause_is}
-use Rattle.ra_witness.proofs.TakenOperations.{past_now, explained, unexplained}
+use Rattle.ra_witness.proofs.TakenOperations.{past_now, explained, unexplained, cycle_now}
 use Rattle.ra_witness.proofs.kept_list.KeptList.add.Goals as goal
 
 pub add-requires-clause-few : goal.add-requires-clause-few
@@ -17,10 +17,16 @@ returns-in-Some-clause-taken c = λ initial_replicas records next stands offered
     let past = stands.past in
     let same = sym (ap (λ (l : Label). l.op) offered.becomes) ∙ c.in-List.is in
     let right = cause_is past initial_replicas records next c.args.label.now stands.is offered c.in-List.op same ∙ none in
-    let after = rw c.in-Some.is at c.in_ok-_cycle.ensures.added past stands.stands right in (
+    let inside = within c.args.self.now.effects past stands.stands in
+    let after = rw c.in-Some.is at c.in_ok-cycle.ensures.added past stands.stands right in (
       record { past = past; stands = after.0; is = stands.is },
-      unexplained past initial_replicas records next c.args.label.now c.in-List.op stands.is offered same right
-          (within c.args.self.now.effects past stands.stands) c.in-Some._cycle.items after.1,
+      unexplained past initial_replicas records next c.args.label.now c.in-List.op stands.is offered same right inside
+          c.in-Some.cycle.items after.1,
+      (
+        refl,
+        cycle_now past initial_replicas records next c.args.label.now c.in-List.op stands.is offered same right inside
+            c.in-Some.cycle.items after.1,
+      ),
     )
 
 pub returns-in-None-clause-taken : goal.returns-in-None-clause-taken
@@ -29,7 +35,7 @@ returns-in-None-clause-taken c = λ initial_replicas records next stands offered
     let operation = c.in-List.op in
     let same = sym (ap (λ (l : Label). l.op) offered.becomes) ∙ c.in-List.is in
     let right = cause_is past initial_replicas records next c.args.label.now stands.is offered operation same ∙ none in
-    let after = rw c.in-None.is at c.in_ok-_cycle.ensures.added past stands.stands right in
+    let after = rw c.in-None.is at c.in_ok-cycle.ensures.added past stands.stands right in
     let inside = within c.args.self.now.effects past stands.stands in
     let later = with_operation past c.args.label.now.replica operation c.args.label.now.number in
     let (order, whole, extends) = c.invariant.ensures later after in (

@@ -1,15 +1,15 @@
-use Rattle.std.proofs.Common.{◌∷◌, true, false, refl, sym, ap, ◌∙◌, subst, arith}
+use Rattle.std.proofs.Common.{◌∷◌, true, false, true≢false, Some, refl, sym, ap, ◌∙◌, subst, arith}
 use Rattle.std.specs.Result.{result_err}
-use Rattle.std.proofs.lemmas.Option.{none-some}
 use Rattle.ra_witness.specs.States.{steps_of}
-use Rattle.ra_witness.proofs.OfferedLabels.{cause_in_sequence, cause_of_elements, from_not, is_offered, comes_offered, order_fails, listed_count, update_known, all_admitted, same_op, taken, kept_same, in_some, in_some_part, in_none}
+use Rattle.ra_witness.proofs.OfferedLabels.{cause_in_sequence, cause_of_elements, from_not, is_offered, comes_offered, order_fails, listed_count, update_known, all_admitted, same_op, taken, kept_same, in_ok, in_ok_part, in_err, in_err_part, fits_in_a_list, not_for_order, shown_by_none, shown_by_it}
 use Rattle.ra_witness.proofs.witness.Witness.offer.Goals as goal
 use Rattle.ra_labels.specs.HistorySoFar.{operate}
 use Rattle.ra_witness.specs.Effects.{AreEffectsOf, IsFoundIn}
 
 pub returns-then-not-place-clause-cause : goal.returns-then-not-place-clause-cause
 returns-then-not-place-clause-cause g c = λ past next stands comes.
-    order_fails past.kind past.records next c.place-place.result stands.none (c.place-place.ensures past next stands.order comes)
+    ap Some c.of.ensures.cause
+    ∙ order_fails past.kind past.records next c.place-place.result stands.none (c.place-place.ensures past next stands.order comes)
     (from_not c.place-place.result.fits false c.if-not-place.true)
 
 pub admit-requires : goal.admit-requires
@@ -31,7 +31,8 @@ returns-in-Err-clause-cause g c = λ past next stands comes.
     let offered = comes_offered g.O.NamedOrder.stands_for g.O.NamedOrder.listed lists c.args.self.now c.args.label.now
     c.args.seen.now c.place-place.result c.requires past next stands comes
     (c.place-place.ensures past next stands.order comes) (from_not c.place-place.result.fits true c.if-not-place.false) in
-    cause_in_sequence past.kind (operate next ∷ past.records) c.in-Err.cause
+    ap Some c.of-in-Err.ensures.cause
+    ∙ cause_in_sequence past.kind (operate next ∷ past.records) c.in-Err.cause
     (ap result_err (sym c.in-Err.is) ∙ c.in_ok-admitted.ensures.cause past next stands.kept offered
     (c.in_ok-parts.ensures.acts ∙ same_op c.args.label.now past.records next comes.becomes))
 
@@ -82,12 +83,12 @@ returns-clause-cause g c = λ past next stands comes.
     (rw c.in-Ok.is at c.in_ok-admitted.ensures.update) acts in
     let kept = subst (λ k. AreEffectsOf k past) (sym c.admit.ensures.same) stands.kept in
     let because = ap result_err (sym c.in-Ok.is) ∙ c.in_ok-admitted.ensures.cause past next stands.kept offered acts in
-    let after = in_some _ _ c.in_ok-steps.field-0 c.in-Some.steps c.in-Some.is
+    let after = in_ok _ _ c.in_ok-steps.field-0 c.in-Ok-2.steps c.in-Ok-2.is
     (c.in_ok-steps.ensures.taken past next kept offered (sym because) update) in
     cause_of_elements past.kind (operate next ∷ past.records) true because after.1
 
-pub returns-in-None-clause-cause : goal.returns-in-None-clause-cause
-returns-in-None-clause-cause g c = λ past next stands comes.
+pub returns-in-Err-2-clause-cause : goal.returns-in-Err-2-clause-cause
+returns-in-Err-2-clause-cause g c = λ past next stands comes.
     let lists = (g.met.O.NamedOrder g.world.𝓛 g.world.𝓜 g.world.𝓡 ((λ s x. x), (λ x. x), (λ x. x), λ x. x)).lists in
     let offered = comes_offered g.O.NamedOrder.stands_for g.O.NamedOrder.listed lists c.args.self.now c.args.label.now
     c.args.seen.now c.place-place.result c.requires past next stands comes
@@ -97,9 +98,10 @@ returns-in-None-clause-cause g c = λ past next stands comes.
     (rw c.in-Ok.is at c.in_ok-admitted.ensures.update) acts in
     let kept = subst (λ k. AreEffectsOf k past) (sym c.admit.ensures.same) stands.kept in
     let because = ap result_err (sym c.in-Ok.is) ∙ c.in_ok-admitted.ensures.cause past next stands.kept offered acts in
-    let after = in_none _ _ c.in_ok-steps.field-0 (λ x some. none-some x (sym c.in-None.is ∙ some))
+    let after = in_err _ _ c.in_ok-steps.field-0 c.in-Err-2.cycle c.in-Err-2.is
     (c.in_ok-steps.ensures.taken past next kept offered (sym because) update) in
-    cause_of_elements past.kind (operate next ∷ past.records) false because after.1
+    ap Some c.of_elements.ensures.cause
+    ∙ cause_of_elements past.kind (operate next ∷ past.records) false because after.1
 
 pub returns-clause-taken : goal.returns-clause-taken
 returns-clause-taken g c = λ past next stands comes same.
@@ -112,7 +114,7 @@ returns-clause-taken g c = λ past next stands comes same.
     (rw c.in-Ok.is at c.in_ok-admitted.ensures.update) acts in
     let kept = subst (λ k. AreEffectsOf k past) (sym c.admit.ensures.same) stands.kept in
     let because = ap result_err (sym c.in-Ok.is) ∙ c.in_ok-admitted.ensures.cause past next stands.kept offered acts in
-    let after = in_some _ _ c.in_ok-steps.field-0 c.in-Some.steps c.in-Some.is
+    let after = in_ok _ _ c.in_ok-steps.field-0 c.in-Ok-2.steps c.in-Ok-2.is
     (c.in_ok-steps.ensures.taken past next kept offered (sym because) update) in
     taken g.O.NamedOrder.stands_for c.args.self.now _ past next c.args.label.now c.args.seen.now stands comes
     (cause_of_elements past.kind (operate next ∷ past.records) true because after.1)
@@ -125,9 +127,9 @@ returns-clause-counted g c = λ past next stands comes other same few.
     let update = update_known c.in-Ok.admitted.update _ next.op
     (rw c.in-Ok.is at c.in_ok-admitted.ensures.update) acts in
     let kept = subst (λ k. AreEffectsOf k past) (sym c.admit.ensures.same) stands.kept in
-    let count = in_some_part _ c.in_ok-steps.field-0 c.in-Some.steps c.in-Some.is (c.in_ok-steps.ensures.counted past kept other) in
+    let count = in_ok_part c.in_ok-steps.field-0 _ c.in-Ok-2.steps c.in-Ok-2.is (c.in_ok-steps.ensures.counted past kept other) in
     let known = ap steps_of update in
-    let one = in_some_part _ c.in_ok-steps.field-0 c.in-Some.steps c.in-Some.is c.in_ok-steps.ensures.step in
+    let one = in_ok_part c.in_ok-steps.field-0 _ c.in-Ok-2.steps c.in-Ok-2.is c.in_ok-steps.ensures.step in
     omega (arith, count, known, few, one, c.saturating_add-self.ensures)
 
 pub returns-clause-settled : goal.returns-clause-settled
@@ -139,8 +141,8 @@ returns-clause-settled g c = λ past next stands comes rga same.
     let acts = c.in_ok-parts.ensures.acts ∙ same_op c.args.label.now past.records next comes.becomes in
     let kept = subst (λ k. AreEffectsOf k past) (sym c.admit.ensures.same) stands.kept in
     let because = ap result_err (sym c.in-Ok.is) ∙ c.in_ok-admitted.ensures.cause past next stands.kept offered acts in (
-      c.in-Some.steps,
-      in_some_part _ c.in_ok-steps.field-0 c.in-Some.steps c.in-Some.is (c.in_ok-steps.ensures.settled past next kept offered
+      c.in-Ok-2.steps,
+      in_ok_part c.in_ok-steps.field-0 _ c.in-Ok-2.steps c.in-Ok-2.is (c.in_ok-steps.ensures.settled past next kept offered
           (all_admitted past.kind (operate next ∷ past.records) because) rga),
       c.saturating_add-self.ensures,
     )
@@ -161,11 +163,11 @@ returns-in_err-steps-clause-same g c = λ past stands failed.
     kept_same g.O.NamedOrder.stands_for c.args.self.now _ past stands (c.in_ok-spare.ensures.stands past stands.order)
     (c.in_err-steps.ensures.same past kept)
 
-pub returns-in-None-clause-same : goal.returns-in-None-clause-same
-returns-in-None-clause-same g c = λ past stands failed.
+pub returns-in-Err-2-clause-same : goal.returns-in-Err-2-clause-same
+returns-in-Err-2-clause-same g c = λ past stands failed.
     let kept = subst (λ k. AreEffectsOf k past) (sym c.admit.ensures.same) stands.kept in
     kept_same g.O.NamedOrder.stands_for c.args.self.now _ past stands (c.in_ok-spare.ensures.stands past stands.order)
-    (in_none _ _ c.in_ok-steps.field-0 (λ x some. none-some x (sym c.in-None.is ∙ some)) (c.in_ok-steps.ensures.unchanged past kept))
+    (in_err_part c.in_ok-steps.field-0 _ c.in-Err-2.cycle c.in-Err-2.is (c.in_ok-steps.ensures.unchanged past kept))
 
 pub returns-clause-same : goal.returns-clause-same
 returns-clause-same g c = λ past stands failed. absurd (failed refl)
@@ -181,5 +183,41 @@ returns-clause-grows g c = omega (arith, c.saturating_add-self.ensures)
 
 pub returns-clause-one_step : goal.returns-clause-one_step
 returns-clause-one_step g c =
-    let one = in_some_part _ c.in_ok-steps.field-0 c.in-Some.steps c.in-Some.is c.in_ok-steps.ensures.step in
+    let one = in_ok_part c.in_ok-steps.field-0 _ c.in-Ok-2.steps c.in-Ok-2.is c.in_ok-steps.ensures.step in
     omega (arith, one, c.saturating_add-self.ensures)
+
+pub returns-then-not-place-clause-cycle : goal.returns-then-not-place-clause-cycle
+returns-then-not-place-clause-cycle g c = λ past next stands comes.
+    shown_by_none past.kind (operate next ∷ past.records) c.of.result c.of.ensures.cycle
+    (λ list order. true≢false
+    (sym (fits_in_a_list past.kind past.records next c.place-place.result stands.none
+    (c.place-place.ensures past next stands.order comes) list)
+    ∙ from_not c.place-place.result.fits false c.if-not-place.true))
+
+pub returns-in-Err-clause-cycle : goal.returns-in-Err-clause-cycle
+returns-in-Err-clause-cycle g c = λ past next stands comes.
+    let lists = (g.met.O.NamedOrder g.world.𝓛 g.world.𝓜 g.world.𝓡 ((λ s x. x), (λ x. x), (λ x. x), λ x. x)).lists in
+    let offered = comes_offered g.O.NamedOrder.stands_for g.O.NamedOrder.listed lists c.args.self.now c.args.label.now
+    c.args.seen.now c.place-place.result c.requires past next stands comes
+    (c.place-place.ensures past next stands.order comes) (from_not c.place-place.result.fits true c.if-not-place.false) in
+    let because = ap result_err (sym c.in-Err.is) ∙ c.in_ok-admitted.ensures.cause past next stands.kept offered
+    (c.in_ok-parts.ensures.acts ∙ same_op c.args.label.now past.records next comes.becomes) in
+    shown_by_none past.kind (operate next ∷ past.records) c.of-in-Err.result c.of-in-Err.ensures.cycle
+    (λ list order. not_for_order past.kind (operate next ∷ past.records) c.in-Err.cause because list
+    (sym c.of-in-Err.ensures.cause ∙ order))
+
+pub returns-in-Err-2-clause-cycle : goal.returns-in-Err-2-clause-cycle
+returns-in-Err-2-clause-cycle g c = λ past next stands comes.
+    let lists = (g.met.O.NamedOrder g.world.𝓛 g.world.𝓜 g.world.𝓡 ((λ s x. x), (λ x. x), (λ x. x), λ x. x)).lists in
+    let offered = comes_offered g.O.NamedOrder.stands_for g.O.NamedOrder.listed lists c.args.self.now c.args.label.now
+    c.args.seen.now c.place-place.result c.requires past next stands comes
+    (c.place-place.ensures past next stands.order comes) (from_not c.place-place.result.fits true c.if-not-place.false) in
+    let acts = c.in_ok-parts.ensures.acts ∙ same_op c.args.label.now past.records next comes.becomes in
+    let update = update_known c.in-Ok.admitted.update _ next.op
+    (rw c.in-Ok.is at c.in_ok-admitted.ensures.update) acts in
+    let kept = subst (λ k. AreEffectsOf k past) (sym c.admit.ensures.same) stands.kept in
+    let because = ap result_err (sym c.in-Ok.is) ∙ c.in_ok-admitted.ensures.cause past next stands.kept offered acts in
+    let after = in_err _ _ c.in_ok-steps.field-0 c.in-Err-2.cycle c.in-Err-2.is
+    (c.in_ok-steps.ensures.taken past next kept offered (sym because) update) in
+    shown_by_it past.kind (operate next ∷ past.records) c.of_elements.result c.in-Err-2.cycle
+    c.of_elements.ensures.cause c.of_elements.ensures.cycle after.2
