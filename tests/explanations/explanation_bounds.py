@@ -269,6 +269,56 @@ def joins():
             yield text_of(kind, "ab", [f"b {UPDATES[kind].format(5, 0)}", *["verdict"] * 20, *lines])
 
 
+# Lists.
+
+
+def free_insertions(count):
+    """Elements 1, 2 .. of a list whose neighbours are not reported."""
+    return [f"a insert 0 {it} 0" for it in range(1, count + 1)]
+
+
+def cycles_of_elements():
+    """As many steps of a cycle as have a line each; of its elements one is removed, or all that are read no more."""
+    for count in (2, 11, 12, 13, 14):
+        parts = [f"a part {it},{it % count + 1}" for it in range(1, count + 1)]
+        removals = [f"a remove {it}" for it in range(2, count)]
+        for removed in ([], removals[:1], removals):
+            yield text_of("list", "a", [*free_insertions(count), *parts[:-1], *removed, parts[-1]])
+
+
+def pairs_of_elements():
+    """Two lines show two elements both ways, or an insertion does so itself, or none does."""
+    made = free_insertions(5)
+    reads = ["a part 3,4,2", "a read 5,3,4,2,1", "a part 1,5", "a read 2,1,3,4,5"]
+    for line in [*reads, "a insert 4 6 2", "a insert 3 6 3"]:
+        yield text_of("list", "ab", [*made, "a part 2,3", "a part 1,2,4", line])
+        yield text_of("list", "ab", [*made, "a part 2,3", "a insert 3 7 5", "a part 5,7,4", "a remove 7", line])
+
+
+def elements_of_a_list():
+    """As many elements are left out, not received, removed or repeated as have a line each or are on one line."""
+    for count in (1, 3, 4, 5, 8, 9, 10):
+        made, elements = free_insertions(count), range(1, count + 1)
+        gets = [f"b got {it}" for it in range(count)]
+        for name, before in (("a", []), ("b", []), ("b", gets), ("c", ["join c a"])):
+            yield text_of("list", "ab", [*made, *before, f"{name} read -"])
+            yield text_of("list", "ab", [*made, *before, f"{name} read {listed(range(3, count + 5))}"])
+            yield text_of("list", "ab", [*made, *before, f"{name} part {listed([*elements, *elements])}"])
+            yield text_of("list", "ab", [*made, *before, f"{name} insert {count} 99 1"])
+            yield text_of("list", "ab", [*made, *before, f"{name} remove {count}"])
+        removed = [f"a remove {it}" for it in elements]
+        yield text_of("list", "ab", [*made, *removed, f"a read {listed(elements)}"])
+        yield text_of("list", "ab", [*made, *gets, *removed, f"b got {count}", f"b part {listed(elements)}"])
+
+
+def updates_of_a_list():
+    """An element that is inserted again, 0, and neighbours that no label or only the own one inserts."""
+    insertions_of_3 = ["insert 7 3 8", "insert 7 3 7", "insert 3 3 0"]
+    for line in ["insert 0 1 0", "insert 0 0 0", "remove 0", "remove 7", *insertions_of_3]:
+        yield text_of("list", "ab", ["a insert 0 1 0", f"a {line}"])
+        yield text_of("list", "ab", ["a insert 0 1 0", *["verdict"] * 20, f"b {line}"])
+
+
 SORTS = [
     lists_of_elements,
     lists_that_differ,
@@ -287,4 +337,8 @@ SORTS = [
     words_of_each_width,
     arrivals,
     joins,
+    cycles_of_elements,
+    pairs_of_elements,
+    elements_of_a_list,
+    updates_of_a_list,
 ]

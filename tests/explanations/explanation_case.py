@@ -5,6 +5,7 @@ from assertions import require
 # The most changes of one sort that are tried of a list, and the most commands that are replayed for those of one sort.
 MOST_TRIED, MOST_STEPS = 256, 1_048_576
 ACCEPTED = ("ok ", "got ", "joined ", "no ")
+INSERTS = ("after", "insert")
 
 
 def listed(numbers):
@@ -14,7 +15,7 @@ def listed(numbers):
 
 def element_of(words):
     """The element that the operation of this line inserts, adds or removes, or None."""
-    place = {"add": 2, "remove": 2, "after": 3}.get(words[1])
+    place = {"add": 2, "remove": 2, "after": 3, "insert": 3}.get(words[1])
     return int(words[place]) if place and place < len(words) else None
 
 
@@ -33,6 +34,8 @@ class Case:
         self.places = accepted + ([self.place] if self.fault else [])
         self.refused = [at for at, it in enumerate(self.replies) if it.startswith("refused ")]
         self.tried = None
+        # The program's own cycle and line that holds, once they are judged (explanation_lists.py).
+        self.cycle, self.held = [], None
 
     # Lines.
 
@@ -85,7 +88,7 @@ class Case:
     def insertions(self, element):
         """The labels that insert the element into a list."""
         lines = {label: self.fields(at) for label, at in enumerate(self.places)}
-        return [it for it, words in lines.items() if words[1] == "after" and element_of(words) == element]
+        return [it for it, words in lines.items() if words[1] in INSERTS and element_of(words) == element]
 
     def needed_by(self, label):
         """The element of a list behind which the label inserts another one, or which it removes; else None."""
@@ -118,6 +121,8 @@ class Case:
         state = self.state_seen()
         if self.cause != "query" or state is None:
             return None
+        if self.monitor.kind == "list" and self.fields(self.place)[1] not in ("read", "part"):
+            return None
         return " ".join([*self.fields(self.place)[:-1], self.answered(state)])
 
     def answered(self, state):
@@ -126,9 +131,19 @@ class Case:
             return str(state)
         if kind == "rga":
             return listed(element for element, is_shown in state if is_shown)
+        if kind == "list":
+            return listed(self.shown_in(state, words))
         if words[1] == "remove":
             return f"#{listed(sorted(identifier for element, identifier in state if element == int(words[2])))}"
         return listed(sorted({it[0] if kind == "orset" else it for it in state}))
+
+    @staticmethod
+    def shown_in(state, words):
+        """The shown elements of a list in rising order; of a part those that are shown, each at its last place."""
+        if words[1] == "read":
+            return sorted(state.shown())
+        part = [int(it) for it in words[2].split(",") if it != "-"]
+        return [it for at, it in enumerate(part) if it in state.shown() and it not in part[at + 1 :]]
 
     # Changes that would make the violating operation hold.
 
@@ -169,7 +184,7 @@ class Case:
 
     def made_changes(self):
         last, name = self.said(self.place), self.name
-        most = min(MOST_STEPS // (self.place + 1), MOST_TRIED if self.monitor.kind == "rga" else MOST_STEPS)
+        most = min(MOST_STEPS // (self.place + 1), MOST_TRIED if self.monitor.kind in ("rga", "list") else MOST_STEPS)
         got = self.got_last(name)[::-1]
         lacked = self.next_for(name)
         for label in lacked if self.monitor.kind == "counter" else lacked[:most]:

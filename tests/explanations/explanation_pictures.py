@@ -1,7 +1,7 @@
 """The picture of an explanation by the model: which rows and columns it has, what each shows, and that in letters."""
 from collections import namedtuple
 
-from explanation_case import element_of
+from explanation_case import INSERTS, element_of
 from explanation_text import MOST_REMEDIES, answer_of, words_of
 
 # The most entries of a short history up to the violating one, all of which are drawn; and those of a longer one.
@@ -26,6 +26,7 @@ class Choice:
         if case.place < MOST_ENTRIES:
             self.add(range(case.place), MOST_ENTRIES)
             return
+        self.add(self.places_of_a_cycle())
         self.add(self.places_of_remedies())
         self.add(self.places_of_needs())
         self.add(self.places_of_differences())
@@ -37,6 +38,12 @@ class Choice:
             if len(self.places) < most and at not in self.places and is_drawn:
                 self.places.append(at)
 
+    def places_of_a_cycle(self):
+        """The labels of a cycle of a list's elements, and then where they reached the replica."""
+        labels = [it["label"] for it in self.case.cycle]
+        arrivals = [self.case.arrival(self.case.name, it) for it in labels]
+        yield from [*(self.case.places[it] for it in labels), *(it for it in arrivals if it is not None)]
+
     def places_of_remedies(self):
         for change in self.case.remedies()[:MOST_REMEDIES]:
             [(sort, number)] = change.items()
@@ -45,7 +52,9 @@ class Choice:
     def places_of_needs(self):
         """Where the element was inserted that is inserted here again, and the one that is needed."""
         case, words = self.case, self.case.fields(self.case.place)
-        elements = [element_of(words)] if words[1] == "after" else []
+        elements = [element_of(words)] if words[1] in INSERTS else []
+        if case.monitor.kind == "list" and words[1] in ("insert", "remove"):
+            elements += [int(it) for it in words[2::2]]
         for element in [*elements, case.needed_by(len(case.places) - 1)]:
             if element is not None:
                 yield from (case.places[it] for it in case.insertions(element)[:1])
@@ -63,6 +72,7 @@ class Choice:
             place = next((at for at, it in enumerate(zip(reported, right)) if it[0] != it[1]), None)
             place = min(len(reported), len(right)) if place is None else place
             return [*reported[place : place + 1], *right[place : place + 1]]
+        # Of a list's read too: it is compared as a set.
         sorts = [[it for it in one if it not in other] for one, other in ((right, reported), (reported, right))]
         return [it[0] for it in sorts if it]
 

@@ -5,6 +5,7 @@ here from the text, so that each fact that a page states is compared.
 """
 import model
 from explanation_case import element_of
+from explanation_lists import is_by_order, rows_of_order, rows_of_query, rows_of_update
 
 # A line has at most 100 characters; of a longer one the first 98 are printed and two points.
 WIDEST, CUT = 100, 98
@@ -23,6 +24,7 @@ REASONS = {
     "order": "its clock is not greater than each clock that it sees.",
     "update": "it cannot be applied at its position in the order.",
 }
+REASON_OF_A_LIST = "no single order explains it with the lines before."
 REJECTIONS = {
     "unknown-replica": "it names a replica that neither line 2 nor a join names",
     "bad-list": "the list is not strictly increasing",
@@ -39,11 +41,14 @@ OPERATIONS = {
     "lwwset": "an LWW set's operations are add, remove and read",
     "orset": "an OR-Set's operations are add, remove and read",
     "rga": "a list's operations are after, remove and read",
+    "list": "a list's operations are insert, remove, read and part",
 }
 OTHER_SETS = {
     ("orset", False): "an OR-Set's add and remove need an identifier, as add 4 #1",
     ("lwwset", True): "an LWW set's operations have a clock, as @1, and no identifier",
 }
+# The facts of these rows of a list are a line, of which a long one is cut.
+WITH_A_LINE = ("expected", "one that holds")
 # These lines are printed by their number alone.
 WITHOUT_THEIR_LINE = ("unknown-replica", "too-many-replicas")
 
@@ -161,13 +166,24 @@ def taken_by(case, words, sign):
 def words_of_violation(case):
     label = len(case.monitor.labels) - 1
     yield ""
-    yield f"line {case.place + 3} is a violation (label {label}): {REASONS[case.cause]}"
+    reason = REASON_OF_A_LIST if is_by_order(case) else REASONS[case.cause]
+    yield f"line {case.place + 3} is a violation (label {label}): {reason}"
     yield ""
     yield headed("reported", act(case.said(case.place)))
-    yield from {"query": words_of_query, "order": words_of_order, "update": words_of_update}[case.cause](case)
+    sorts = {"query": words_of_query, "order": words_of_order, "update": words_of_update}
+    yield from words_of_a_list(case) if case.monitor.kind == "list" else sorts[case.cause](case)
     yield from words_of_what_it_sees(case)
     yield from words_of_remedies(case)
     yield from words_of_rejections(case)
+
+
+def words_of_a_list(case):
+    rows = {"query": rows_of_query, "order": rows_of_order, "update": rows_of_update}
+    for head, facts, *label in rows[case.cause](case):
+        if label:
+            yield with_label(case, headed(head, facts), *label)
+        else:
+            yield headed(head, act(facts) if head in WITH_A_LINE else facts)
 
 
 def words_of_query(case):

@@ -9,3 +9,5 @@ pub mod Ranges
 pub mod LastDeliveries
 pub mod Reported
 pub mod Conflicts
+pub mod Positions
+pub mod Agreements

@@ -15,6 +15,7 @@ use Rattle.ra_monitor.specs.Monitor.{MonitorEntry}
 use Rattle.ra_explain.specs.declared.changes.Change.TheVariants.{ComesBefore}
 use Rattle.ra_explain.specs.declared.conflict.Conflict.{Conflict}
 use Rattle.ra_explain.specs.declared.violation.Violation.{Violation}
+use Rattle.ra_explain.specs.Agreement.{Agree, IsDisagreement}
 use Rattle.ra_explain.specs.Changes.{command_holds_with}
 use Rattle.ra_explain.specs.Origin.{operation_of}
 use Rattle.ra_explain.specs.Places.{places_in}
@@ -36,11 +37,14 @@ IsCycleOrNone edges cycle = (cycle ≡ []) ⊎ IsCycle edges cycle
 abbrev pub HoldsAt : Setup → List MonitorEntry → ℕ → Command → Type 0
 HoldsAt setup log place command = command_holds_with setup (take place log) (ComesBefore place) command ≡ true
 
--- Holds if the conflict is one of the log: its cycle consists of edges that the labels require, and the other command
--- would hold at this position.
-pub record IsConflict (setup : Setup) (log : List MonitorEntry) (place : ℕ) (conflict : Conflict) : Type 0 where
+-- Holds if the conflict is one of the log with this violation: its cycle consists of edges that the labels require, the
+-- other command would hold in place of the violating one, and its pairs are two elements that a label shows the other
+-- way round than the violating label, if there are any.
+pub record IsConflict (setup : Setup) (log : List MonitorEntry) (v : Violation) (conflict : Conflict) : Type 0 where
   pub cycle : IsCycleOrNone (edges_of_labels log (places_in log)) conflict.cycle.items
-  pub holding : IfSome conflict.holding (HoldsAt setup log place)
+  pub holding : IfSome conflict.holding (HoldsAt setup log v.place)
+  pub pairs : MatchOption conflict.pairs (Agree log (places_in log) v.fault.label)
+      (IsDisagreement log (places_in log) v.fault.label)
 
 -- `true` if a violation of this kind and cause is one by the order of a list
 abbrev pub is_by_order : Kind → Cause → Bool
@@ -50,4 +54,4 @@ is_by_order kind cause = false
 -- holds if there is a conflict exactly for a violation by the order of a list, and it is one of the log
 abbrev pub HasConflict : Setup → List MonitorEntry → Violation → Option Conflict → Type 0
 HasConflict setup log v found = MatchOption found (is_by_order setup.kind v.fault.cause ≡ false)
-    (λ conflict. (is_by_order setup.kind v.fault.cause ≡ true) × IsConflict setup log v.place conflict)
+    (λ conflict. (is_by_order setup.kind v.fault.cause ≡ true) × IsConflict setup log v conflict)

@@ -10,3 +10,5 @@ pub mod Rejected
 pub mod Explanation
 pub mod Explains
 pub mod LastDeliveries
+pub mod Spans
+pub mod Agreement

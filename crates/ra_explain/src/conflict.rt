@@ -3,6 +3,7 @@ ghost use Rattle.std.specs.Prelude.{◌≡◌, IfOk, IfSome};
 ghost use Rattle.ra_explain.specs.Conflicts.{HoldsAt, IsConflict};
 ghost use Rattle.ra_explain.specs.Places.{places_in};
 
+use crate::agreement::{Disagreement, find_disagreement};
 use crate::changes::would_hold_as;
 use crate::cycle::shortest_cycle;
 use crate::edges::edges_of_labels;
@@ -24,6 +25,9 @@ pub struct Conflict {
     /// The violating command with its elements in one of the orders in which it would hold, if that was found. An
     /// insertion names its left neighbour alone.
     pub holding: Option<Command>,
+    /// Two elements that a label shows in one order, and the violating label the other way round. `None` if all labels
+    /// show each two elements in one order.
+    pub pairs: Option<Disagreement>,
 }
 
 impl Conflict {
@@ -35,7 +39,8 @@ impl Conflict {
     ///
     /// # Complexity
     ///
-    /// That of `shortest_cycle` for the edges of all labels, and the monitor's steps for the commands before.
+    /// That of `shortest_cycle` for the edges of all labels, that of `find_disagreement`, and the monitor's steps for
+    /// the commands before.
     pub fn of(
         alloc: Global,
         setup: &Setup,
@@ -45,8 +50,9 @@ impl Conflict {
     ) -> Result<Conflict, NoMemory>
         // The places are those of the labels in the log.
         requires { places.now ≡ places_in log.now }
-        // The cycle consists of edges that labels require, and the other command would hold.
-        ensures { IfOk result (IsConflict setup.now log.now violation.now.place) }
+        // The cycle consists of edges that labels require, the other command would hold, and the pairs are two elements
+        // that the violating label shows the other way round than another one, if there are any.
+        ensures { IfOk result (IsConflict setup.now log.now violation.now) }
     {
         let edges = edges_of_labels(alloc, log, places)?;
         let own = edges.partition_point(|edge| edge.label < violation.fault.label);
@@ -57,6 +63,7 @@ impl Conflict {
         Ok(Conflict {
             cycle,
             holding: holding_of(alloc, setup, log, violation.place, other)?,
+            pairs: find_disagreement(alloc, log, places, violation.fault.label)?,
         })
     }
 }

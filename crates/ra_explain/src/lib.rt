@@ -7,6 +7,7 @@
 //! `labels_with` returns the labels of one sort among those of a log.
 #![tactic(auto)]
 
+mod agreement;
 mod changes;
 mod conflict;
 mod cycle;
@@ -21,6 +22,7 @@ mod places;
 mod rejected;
 mod remedies;
 mod replica_state;
+mod spans;
 #[cfg(test)]
 mod tests;
 pub mod theorems;
@@ -28,6 +30,7 @@ mod undelivered;
 mod unmet;
 mod violation;
 
+pub use agreement::Disagreement;
 pub use changes::{Change, would_hold};
 pub use conflict::Conflict;
 pub use difference::Difference;

@@ -1,11 +1,14 @@
 -- The explanation as a JSON object. A command is spelled as the writer of histories spells it.
-use Rattle.std.specs.Prelude.{ℕ, Bool, true, false, ◌&&◌, List, [], ◌∷◌, ◌++◌, length, Option, Some, None, is_none, codes, decimal}
+use Rattle.std.specs.Prelude.{ℕ, Bool, true, false, ◌&&◌, List, [], ◌∷◌, ◌++◌, length, Option, Some, None, is_none, codes, decimal, slice_get}
 use Rattle.std.specs.Option.{option_map_or}
 use Rattle.ra_labels.specs.declared.command.Command.{Command}
+use Rattle.ra_labels.specs.declared.edge.Edge.{Edge}
 use Rattle.ra_history_lines.specs.Replies.{cause_word}
 use Rattle.ra_history_writer.specs.Spelling.{line_of, name_of}
+use Rattle.ra_explain.specs.declared.agreement.Disagreement.{Disagreement}
 use Rattle.ra_explain.specs.declared.changes.Change.{Change}
 use Rattle.ra_explain.specs.declared.changes.Change.TheVariants.{Gets, Misses, ComesBefore}
+use Rattle.ra_explain.specs.declared.conflict.Conflict.{Conflict}
 use Rattle.ra_explain.specs.declared.explanation.Explanation.{Explanation}
 use Rattle.ra_explain.specs.declared.remedies.Remedies.{Remedies}
 use Rattle.ra_explain.specs.declared.undelivered.Undelivered.{Undelivered}
@@ -56,6 +59,47 @@ remedies_members remedies = codes ",\"would_be_right\":[" ++ (changes_value reme
 abbrev pub violation_members : List (List ℕ) → Violation → Remedies → List ℕ
 violation_members names v remedies = fault_members v ++ (command_members names v ++ remedies_members remedies)
 
+-- ---- a violation by the order of a list
+
+-- the number of the line with label n, given the labels' positions; 0 if there is no such label
+abbrev pub label_line : List ℕ → ℕ → ℕ
+label_line places n = option_map_or line_number (slice_get places n) 0
+
+-- an edge: its ends, and the label that requires it with its line
+abbrev pub edge_value : List ℕ → Edge → List ℕ
+edge_value places edge = (codes "{\"before\":" ++ decimal edge.before)
+    ++ ((codes ",\"after\":" ++ decimal edge.after)
+    ++ ((codes ",\"label\":" ++ decimal edge.label)
+    ++ ((codes ",\"line\":" ++ decimal (label_line places edge.label)) ++ codes "}")))
+
+-- each edge with a comma (byte 44) before it
+abbrev pub more_edges : List ℕ → List Edge → List ℕ
+more_edges places [] = []
+more_edges places (edge ∷ edges) = 44 ∷ (edge_value places edge ++ more_edges places edges)
+
+abbrev pub edges_value : List ℕ → List Edge → List ℕ
+edges_value places [] = []
+edges_value places (edge ∷ edges) = edge_value places edge ++ more_edges places edges
+
+-- the command that would hold, if one was found
+abbrev pub holds_member : List (List ℕ) → Option Command → List ℕ
+holds_member names (Some command) = codes ",\"holds\":\"" ++ (line_of names command ++ codes "\"")
+holds_member names None = []
+
+-- whether two labels show two elements in different orders
+abbrev pub pairs_member : Option Disagreement → List ℕ
+pairs_member (Some pairs) = codes ",\"pairs\":\"differ\""
+pairs_member None = codes ",\"pairs\":\"agree\""
+
+abbrev pub conflict_members : List (List ℕ) → List ℕ → Conflict → List ℕ
+conflict_members names places conflict = codes ",\"cycle\":[" ++ (edges_value places conflict.cycle.items
+    ++ (codes "]" ++ (holds_member names conflict.holding ++ pairs_member conflict.pairs)))
+
+-- the same if the violation is one by the order of a list
+abbrev pub conflict_text : List (List ℕ) → List ℕ → Option Conflict → List ℕ
+conflict_text names places (Some conflict) = conflict_members names places conflict
+conflict_text names places None = []
+
 -- ---- a pass
 
 abbrev pub pass_members : ℕ → List ℕ
@@ -95,7 +139,8 @@ lacks_members names is_first (lack ∷ lacks) =
 -- ---- the object
 
 abbrev pub answer_members : List (List ℕ) → Explanation → Option Violation → List ℕ
-answer_members names e (Some violation) = violation_members names violation e.remedies
+answer_members names e (Some violation) =
+    violation_members names violation e.remedies ++ conflict_text names e.places e.conflict
 answer_members names e None = pass_members e.report.labels
 
 -- the object of an explanation, with a line feed

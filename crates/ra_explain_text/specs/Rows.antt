@@ -40,6 +40,8 @@ head_word head.Names = codes "names"
 head_word head.Cycle = codes "cycle"
 head_word head.So = codes "so"
 head_word head.Holds = codes "one that holds"
+head_word head.Removed = codes "removed"
+head_word head.Pairs = codes "pairs"
 
 -- `true` if the head is a word, and not that of a further line
 abbrev pub has_word : Head → Bool

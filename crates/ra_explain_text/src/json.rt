@@ -4,6 +4,7 @@ ghost use Rattle.std.specs.Prelude.{◌≡◌, ◌++◌, true, OnOk};
 ghost use Rattle.ra_explain_text.specs.Json as json;
 ghost use Rattle.ra_explain_text.specs.Json.{object_of};
 
+use crate::json_conflict::put_conflict;
 use crate::layout::{put, put_size};
 use crate::quotes::{put_line_number, put_name};
 use crate::view::View;
@@ -44,7 +45,7 @@ fn put_answer(out: &mut Vec<u8>, view: &View<'_>) -> Result<(), NoMemory>
         ++ json.answer_members view.now.names.now view.now.explanation.now view.now.explanation.now.violation) }
 {
     match &view.explanation.violation {
-        Some(violation) => put_violation(out, view, violation),
+        Some(violation) => put_no(out, view, violation),
         None => put_pass(out, view.explanation.report.labels),
     }
 }
@@ -53,6 +54,18 @@ fn put_pass(out: &mut Vec<u8>, labels: u32) -> Result<(), NoMemory>
     ensures { OnOk result (out.new.items ≡ out.old.items ++ json.pass_members labels) }
 {
     put_numbered(out, b"{\"answer\":\"yes\",\"labels\":", labels)
+}
+
+// Appends the violation, and the conflict if it is one by the order of a list.
+fn put_no(out: &mut Vec<u8>, view: &View<'_>, violation: &Violation) -> Result<(), NoMemory>
+    ensures { OnOk result (out.new.items ≡ out.old.items
+        ++ (json.violation_members view.now.names.now violation.now view.now.explanation.now.remedies
+        ++ json.conflict_text view.now.names.now view.now.explanation.now.places
+        view.now.explanation.now.conflict)) }
+{
+    let it = view.explanation;
+    put_violation(out, view, violation)?;
+    put_conflict(out, view.names, &it.places, &it.conflict)
 }
 
 fn put_violation(out: &mut Vec<u8>, view: &View<'_>, violation: &Violation) -> Result<(), NoMemory>

@@ -12,6 +12,7 @@ mod conflict;
 mod document;
 mod elements;
 mod json;
+mod json_conflict;
 mod layout;
 mod list_elements;
 mod notes;

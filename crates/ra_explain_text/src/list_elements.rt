@@ -243,13 +243,19 @@ fn insertion_of(
 // Returns the first label that removes the element and that the violating label sees, if there is one.
 fn removal_of(view: &View<'_>, violation: &Violation, element: u32) -> Option<u32> {
     for label in 0..violation.fault.label {
-        match view.explanation.operation(label) {
-            Some(Op::List(ListOp::Remove(removed)))
-                if *removed == element && !lacks(violation, label) => return Some(label),
-            _ => {}
+        if removes(view, label, element) && !lacks(violation, label) {
+            return Some(label);
         }
     }
     None
+}
+
+/// Returns `true` if the label removes the element.
+pub fn removes(view: &View<'_>, label: u32, element: u32) -> bool {
+    match view.explanation.operation(label) {
+        Some(Op::List(ListOp::Remove(removed))) => *removed == element,
+        _ => false,
+    }
 }
 
 fn add_others(notes: &mut Vec<Note>, all: usize) -> Result<(), NoMemory> {

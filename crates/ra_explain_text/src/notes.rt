@@ -52,6 +52,10 @@ pub enum Head {
     So,
     /// An operation that would hold.
     Holds,
+    /// An element of a cycle that is shown no more.
+    Removed,
+    /// Two elements that two lines show the other way round.
+    Pairs,
 }
 
 /// A line of a page: its head, and a text of printable bytes.
@@ -160,7 +164,9 @@ fn has_word(head: Head) -> bool
         | Head::Names
         | Head::Cycle
         | Head::So
-        | Head::Holds => true,
+        | Head::Holds
+        | Head::Removed
+        | Head::Pairs => true,
     }
 }
 
@@ -189,5 +195,7 @@ fn word_of(head: Head) -> &'static str
         Head::Cycle => "cycle",
         Head::So => "so",
         Head::Holds => "one that holds",
+        Head::Removed => "removed",
+        Head::Pairs => "pairs",
     }
 }

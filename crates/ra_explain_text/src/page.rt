@@ -204,7 +204,7 @@ fn add_reasons(notes: &mut Vec<Note>, view: &View<'_>) -> Result<(), NoMemory> {
     match violation.fault.cause {
         Cause::Query => add_query(notes, view, violation)?,
         Cause::Order => match &view.explanation.conflict {
-            Some(conflict) => add_conflict(notes, view, conflict)?,
+            Some(conflict) => add_conflict(notes, view, violation, conflict)?,
             None => add_order(notes, view, violation)?,
         },
         Cause::Update => add_update(notes, view, violation)?,
