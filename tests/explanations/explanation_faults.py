@@ -15,7 +15,7 @@ FORMS = ([], ["--json"], ["--html"], ["--svg"], ["--sequence"])
 # The number of bytes of a line or field that are shown; two points follow those of a longer one.
 SHOWN = 60
 # What may stand behind the front of a line.
-TAILS = ("", " inc", " 1", " 1 1", " -", " zz", " zz zz", " 1 counter", " counter")
+TAILS = ("", " inc", " 1", " 1 1", " 0 1 0", " -", " zz", " zz zz", " 1 counter", " counter")
 SENTENCES = {
     "syntax": " cannot be parsed.",
     "too long": " has more than 1048576 bytes.",
