@@ -8,8 +8,6 @@
 mod pairs;
 mod placing;
 mod read;
-#[cfg(test)]
-mod tests;
 
 pub use placing::{Placement, add_insertion};
 pub use read::{add_part, add_read};

@@ -6,7 +6,5 @@
 #![tactic(auto)]
 
 mod list_effects;
-#[cfg(test)]
-mod tests;
 
 pub use list_effects::{Change, Found, ListEffects};

@@ -11,8 +11,6 @@ mod finding;
 mod listing;
 mod mark;
 mod replica_view;
-#[cfg(test)]
-mod tests;
 
 pub use element_numbers::ElementNumbers;
 pub use finding::Listed;

@@ -9,9 +9,5 @@
 mod finding;
 mod list_witness;
 mod named;
-#[cfg(test)]
-mod tests;
-#[cfg(test)]
-mod worked_examples;
 
 pub use list_witness::ListWitness;

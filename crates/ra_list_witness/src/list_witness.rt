@@ -450,8 +450,11 @@ impl ListWitness {
         elements_of(alloc, &self.numbers, &numbers)
     }
 
-    /// Returns the number of edges, for the tests.
-    pub(crate) fn edge_count(&self) -> usize {
+    /// Returns the number of edges.
+    pub fn edge_count(&self) -> usize
+        // The result is the number of edges.
+        ensures { result ≡ length self.now.edges }
+    {
         self.order.edge_count()
     }
 

@@ -7,8 +7,6 @@
 
 mod part;
 mod rewriting;
-#[cfg(test)]
-mod tests;
 
 pub use part::{Part, Parts};
 pub use rewriting::{parts, parts_of};

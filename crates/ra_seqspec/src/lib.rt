@@ -8,8 +8,6 @@ mod list;
 mod pairs;
 mod rga;
 mod state;
-#[cfg(test)]
-mod tests;
 pub mod theorems;
 
 pub use state::State;

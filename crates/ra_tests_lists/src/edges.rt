@@ -1,8 +1,8 @@
-//! Tests of what no clause states: calls succeed, and can be repeated after a failed allocation.
+//! Tests of `ra_list_edges`: calls succeed, and can be repeated after a failed allocation.
 ghost use Rattle.std.specs.Prelude.{Contains, IfSome, IsTrue};
 
-use crate::{Placement, add_insertion, add_part};
 use ra_labels::NoMemory;
+use ra_list_edges::{Placement, add_insertion, add_part};
 use ra_list_order::ListOrder;
 use std::alloc::Global;
 use std::process::Abort;

@@ -1,11 +1,11 @@
-//! The worked examples of the kind `list`, by calls of the witness, and calls that are repeated after a failed
+//! Tests of `ra_list_witness`: the worked examples of the kind `list`, by its calls, which are repeated after a failed
 //! allocation.
 ghost use Rattle.std.specs.Prelude.{◌<◌};
 
-use crate::ListWitness;
 use crate::worked_examples::{ROWS, Step};
 use ra_labels::{Cause, Insertion, NoMemory};
 use ra_list_replica::Mark;
+use ra_list_witness::ListWitness;
 use std::alloc::Global;
 use std::process::Abort;
 use std::test::Fail;

@@ -1,9 +1,9 @@
-//! Tests of what no clause states: the calls on a list succeed if memory suffices.
+//! Tests of `ra_seqspec`: the calls on a list succeed if memory suffices.
 ghost use Rattle.std.specs.Prelude.{◌≡◌, true, IfOk};
 ghost use Rattle.ra_seqspec.specs.Asked.{asks_rising};
 
-use crate::State;
 use ra_labels::{Elements, Insertion, Kind, ListQuery, ListUpdate, Query, Update};
+use ra_seqspec::State;
 use std::alloc::{AllocError, Global};
 use std::test::Fail;
 

@@ -1,8 +1,8 @@
-//! Tests of what no clause states: calls succeed, few elements are looked up, and a failed allocation changes nothing.
+//! Tests of `ra_list_replica`: calls succeed, few elements are looked up, and a failed allocation changes nothing.
 ghost use Rattle.std.specs.Prelude.{◌<◌};
 
-use crate::{ElementNumbers, Listed, Mark, ReplicaView};
 use ra_labels::NoMemory;
+use ra_list_replica::{ElementNumbers, Listed, Mark, ReplicaView};
 use std::alloc::Global;
 use std::process::Abort;
 use std::test::Fail;

@@ -1,8 +1,8 @@
-//! Tests of what no clause states: calls succeed, and can be repeated after a failed allocation.
+//! Tests of `ra_list_effects`: calls succeed, and can be repeated after a failed allocation.
 ghost use Rattle.std.specs.Prelude.{◌<◌};
 
-use crate::ListEffects;
 use ra_labels::{Cause, Elements, Insertion, ListOp, NoMemory};
+use ra_list_effects::ListEffects;
 use std::alloc::Global;
 use std::process::Abort;
 use std::test::Fail;

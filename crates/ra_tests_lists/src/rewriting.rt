@@ -1,6 +1,6 @@
-//! Tests of what no clause states: the reads of a list are rewritten if memory suffices.
-use crate::parts_of;
+//! Tests of `ra_rewrite`: the reads of a list are rewritten if memory suffices.
 use ra_labels::{Elements, ListOp, Op};
+use ra_rewrite::parts_of;
 use std::test::Fail;
 
 #[test]
