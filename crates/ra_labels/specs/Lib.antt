@@ -9,6 +9,7 @@ pub mod Specification
 pub mod Records
 pub mod ListHistory
 pub mod Visibility
+pub mod Siblings
 pub mod Places
 pub mod Rewriting
 pub mod Linearization
