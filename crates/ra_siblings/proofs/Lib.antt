@@ -1,0 +1,2 @@
+pub mod KeptLabels
+pub mod SortedValues
