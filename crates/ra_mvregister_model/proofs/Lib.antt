@@ -1,0 +1,5 @@
+pub mod UnseenLabels
+pub mod ChangedSiblings
+pub mod FewSiblings
+pub mod Sequences
+pub mod ReadValues

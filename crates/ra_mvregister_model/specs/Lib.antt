@@ -1,0 +1,3 @@
+pub mod Unseen
+pub mod Replacing
+pub mod Worked
