@@ -22,3 +22,4 @@ pub mod Insertion
 pub mod Commuting
 pub mod Late
 pub mod Pending
+pub mod Agreement
