@@ -1,0 +1,4 @@
+pub mod Ranges
+pub mod AgreeingReads
+pub mod ExplainedReads
+pub mod SameCounts

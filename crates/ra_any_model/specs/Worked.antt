@@ -1,0 +1,35 @@
+-- Histories of the worked examples, newest command first. An increment stands for any update, and `Last` for a read.
+use Rattle.std.specs.Prelude.{ℕ, [], ◌∷◌, Option, Some, None}
+use Rattle.ra_labels.specs.declared.operation.Op.{Op}
+use Rattle.ra_labels.specs.declared.operation.Op.TheVariants.{Inc, Last}
+use Rattle.ra_labels.specs.declared.command.Command.{Command}
+use Rattle.ra_labels.specs.declared.command.Command.TheVariants.{Operate, Deliver}
+use Rattle.ra_labels.specs.Records.{Records}
+
+-- the value that an operation read
+abbrev pub value_read : Op → Option ℕ
+value_read (Last value) = value
+value_read _ = None
+
+abbrev pub update_by : ℕ → Command
+update_by replica = Operate replica Inc None
+
+abbrev pub read_by : ℕ → ℕ → Command
+read_by replica value = Operate replica (Last (Some value)) None
+
+-- `a update`; `b got 0`; `a read 7`; `b read 7`
+abbrev pub read_alike : Records
+read_alike = read_by 1 7 ∷ read_by 0 7 ∷ Deliver 1 0 ∷ update_by 0 ∷ []
+
+-- `a update`; `b update`; `a got 1`; `b got 0`; `a read 7`; `b read 8`
+abbrev pub read_apart : Records
+read_apart =
+    read_by 1 8 ∷ read_by 0 7 ∷ Deliver 1 0 ∷ Deliver 0 1 ∷ update_by 1 ∷ update_by 0 ∷ []
+
+-- `a update`; `a read 7`; `b update`; `a read 8`
+abbrev pub read_again : Records
+read_again = read_by 0 8 ∷ update_by 1 ∷ read_by 0 7 ∷ update_by 0 ∷ []
+
+-- `a update`; `a read 7`; `b read 7`: b reads what the update led to before its delivery
+abbrev pub read_too_soon : Records
+read_too_soon = read_by 1 7 ∷ read_by 0 7 ∷ update_by 0 ∷ []
