@@ -1,0 +1,3 @@
+pub mod EqualCounts
+pub mod Trimmed
+pub mod Entries
