@@ -166,6 +166,21 @@ export function insertAfter(anchor: Key | null, element: Key, stamp: Stamp): Ope
  */
 export function insert(left: Key | null, element: Key, right: Key | null): Operation;
 
+/**
+ * Creates a list's insertion of this element at an index of the list that the replica showed before it: `insert` with
+ * the elements on both sides of the index, which counts from 0. An insertion at the end has the length of the list as
+ * its index. Throws `RangeError` if the list has no such index.
+ */
+export function inserted(before: Iterable<Key>, index: number, element: Key): Operation;
+
+/**
+ * Creates the operations that lead from the list that a replica showed before a change to the one after it: a removal
+ * of each element that is gone, and then an insertion of each new one, as one update of `Recorder.update`. The elements
+ * of each list are distinct. Throws `NotRepresentable` if an element stands twice in a list, or if two elements changed
+ * their order.
+ */
+export function difference(before: Iterable<Key>, after: Iterable<Key>): Operation[];
+
 /** The options of a recorder. */
 export interface RecorderOptions extends MonitorOptions {
   /** The file to which the history is written when a report fails. */

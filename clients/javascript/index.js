@@ -2,6 +2,7 @@
 //
 // `Monitor` runs the program behind a pipe. `Recorder` reports to it in the user's own names. `checkRandom` tests a
 // replicated data type in random runs, and shrinks the first run that has a violation.
+export { difference, inserted } from "./src/differences.js";
 export { MonitorExited, NotLinearizable, NotRepresentable } from "./src/errors.js";
 export { FlakyRun, Refused, ReplicaRaised, ReportFailed } from "./src/errors.js";
 // The names that two of them had in the previous version. The next version removes them.

@@ -2,8 +2,8 @@
 import { LISTS } from "./operations.js";
 
 // The methods that insert an element, which is their second argument, and those that remove their first one.
-const INSERTING = ["insertAfter", "insert"];
-export const REMOVING = ["remove", "delete"];
+export const INSERTING = ["insertAfter", "insert", "insertAt"];
+export const REMOVING = ["remove", "delete", "removeAt"];
 
 /**
  * The updates that were delivered to each replica, those that each update sees, and the visible list elements.

@@ -1,9 +1,10 @@
 // The replicas of one run: executes steps on the user's class, and reports them.
 import { inspect } from "node:util";
 import { copied } from "./copies.js";
-import { DeliveryState } from "./delivery_state.js";
+import { DeliveryState, INSERTING, REMOVING } from "./delivery_state.js";
 import { NotRepresentable } from "./errors.js";
 import * as operations from "./operations.js";
+import { ownMethod } from "./profile.js";
 import { Recorder } from "./recorder.js";
 import { Returned, UnusableResult } from "./returned.js";
 import { COPYING, callArguments, makeStep } from "./steps.js";
@@ -77,8 +78,9 @@ export class Driver {
    */
   async execute(steps) {
     if (this.#profile.restarts) for (const replica of this.#replicas.keys()) await this.#saveState(replica);
-    for (const step of steps) {
-      if (this.#replicas.has(step.replica) === (step.action === "join")) continue;
+    for (const planned of steps) {
+      if (this.#replicas.has(planned.replica) === (planned.action === "join")) continue;
+      const step = this.#named(planned);
       this.#current = step;
       try {
         if (!(await this.#handlers[step.action](step))) continue;
@@ -91,6 +93,12 @@ export class Driver {
       this.#lineCounts.push(this.#transcript.lines.length);
     }
     return null;
+  }
+
+  /** Returns the step with the name that its replica has for the method of an update. */
+  #named(step) {
+    if (step.action !== "update") return step;
+    return { ...step, method: ownMethod(this.#replicas.get(step.replica), step.method) };
   }
 
   /** Returns the history, or the header with this number of commands. */
@@ -286,7 +294,7 @@ export class Driver {
 
 /** Returns the index of a list's update, and the elements that the list shows on both sides of an insertion. */
 function placeOf({ method, arguments: [named] }, shown) {
-  if (method === "delete") return { index: shown.indexOf(named) };
+  if (REMOVING.includes(method)) return { index: shown.indexOf(named) };
   const index = named === null ? 0 : shown.indexOf(named) + 1;
   return { index, left: named, right: shown[index] ?? null };
 }
@@ -294,7 +302,7 @@ function placeOf({ method, arguments: [named] }, shown) {
 /** Returns the operation of an update, with the stamp or the identifiers of its message. */
 function operationOf(kind, step, message, { left, right }) {
   const [first, second] = step.arguments;
-  if (kind === "list" && step.method === "insert") return operations.insert(left, second, right);
+  if (kind === "list" && INSERTING.includes(step.method)) return operations.insert(left, second, right);
   if (kind === "register") return operations.write(first, stampOf(step, message));
   if (step.method === "insertAfter") return operations.insertAfter(first, second, stampOf(step, message));
   if (kind === "orset" && step.method === "add") return operations.add(first, { identifier: message.identifier });

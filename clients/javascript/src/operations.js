@@ -13,6 +13,8 @@ export const OPERATIONS = {
 };
 /** The kinds whose elements have an order. */
 export const LISTS = ["rga", "list"];
+/** The other names that the methods of a list with indexes may have. */
+export const OTHER_NAMES = { insert: "insertAt", delete: "removeAt" };
 
 /** Returns the names of the operations of this kind. */
 export function operationsOf(kind) {

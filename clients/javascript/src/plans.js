@@ -2,7 +2,7 @@
 import { inspect } from "node:util";
 import { DeliveryState, REMOVING } from "./delivery_state.js";
 import { Network } from "./network.js";
-import { LISTS, methodsOf } from "./operations.js";
+import { LISTS } from "./operations.js";
 import { RandomNumbers } from "./random_numbers.js";
 import { makeStep } from "./steps.js";
 
@@ -271,7 +271,7 @@ export class Planner {
     if (!LISTS.includes(this.#kind)) return [method, [this.#random.choice(this.#elements)]];
     const visible = this.#state.visible[replica];
     if (REMOVING.includes(method) && visible.length > 0) return [method, [this.#random.choice(visible)]];
-    return [methodsOf(this.#kind)[0], [this.#random.choice([null, ...visible]), this.#newValue()]];
+    return [this.#traits.methods[0], [this.#random.choice([null, ...visible]), this.#newValue()]];
   }
 
   #chooseAmount() {

@@ -1,11 +1,12 @@
 // What a type promises of its transport, and what its class can do.
 import { inspect } from "node:util";
-import { methodsOf } from "./operations.js";
+import { OTHER_NAMES, methodsOf } from "./operations.js";
 
 export const DELIVERIES = ["causal", "any"];
 // The relative frequency of each method, unless the caller chooses others.
 export const WEIGHTS = {
   increment: 1, decrement: 1, write: 1, add: 2, remove: 1, insertAfter: 3, insert: 3, delete: 1,
+  insertAt: 3, removeAt: 1,
 };
 /** Which parameter of a counter's update is an amount. */
 export const AMOUNT_RULE = "an amount is the first parameter of each update and is named `by`";
@@ -54,8 +55,8 @@ export function isClass(make) {
  * that is no amount, and `RangeError` if it cannot keep what is promised.
  */
 export function traitsOf(make, kind, name, promised, weights) {
-  const operations = methodsOf(kind);
   const replica = make(name);
+  const operations = methodsOf(kind).map((it) => ownMethod(replica, it));
   const merges = !hasMethod(replica, "receive") && hasMethod(replica, "merge");
   const required = [operations[0], "read", ...(merges ? ["state", "merge"] : ["receive"])];
   if (promised.restarts) required.push("save", "load");
@@ -98,6 +99,13 @@ function untriedParameters(replica, methods, amounts) {
     }
     return parameter === undefined ? [] : [`${name}(${parameter})`];
   });
+}
+
+/** Returns the name that this replica has for a method, or the method itself if it has none. */
+export function ownMethod(replica, method) {
+  const pair = Object.entries(OTHER_NAMES).find((it) => it.includes(method)) ?? [method];
+  const other = pair.find((it) => it !== method) ?? method;
+  return hasMethod(replica, other) && !hasMethod(replica, method) ? other : method;
 }
 
 /** Returns whether the replica has this method. `load` may be a static method of its class. */

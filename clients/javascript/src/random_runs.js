@@ -1,9 +1,9 @@
 // Random runs of the user's own replicas, and the smallest history of the first failure.
 import { inspect } from "node:util";
 import { NotRepresentable } from "./errors.js";
-import { methodsOf } from "./operations.js";
+import { OTHER_NAMES, methodsOf } from "./operations.js";
 import { Planner, formatSeed, parseSeed } from "./plans.js";
-import { AMOUNT_RULE, defaultNames, hasMethod, replicaMaker, traitsOf } from "./profile.js";
+import { AMOUNT_RULE, defaultNames, hasMethod, ownMethod, replicaMaker, traitsOf } from "./profile.js";
 import * as programs from "./program.js";
 import { createError, createFlaky, requireWritable } from "./random_failures.js";
 import { Run, findFailure, isSameCause } from "./runs.js";
@@ -145,7 +145,7 @@ async function* finished(pending, most) {
 }
 
 function resultOf(runs, kind, traits) {
-  const unused = methodsOf(kind).filter((it) => !traits.methods.includes(it));
+  const unused = methodsOf(kind).filter((it) => ![it, OTHER_NAMES[it]].some((name) => traits.methods.includes(name)));
   if (unused.length > 0) {
     process.stderr.write(`checkRandom ${kind}: the type has no ${unused.join(", ")}, so it was not tried\n`);
   }
@@ -190,7 +190,7 @@ export async function replay(makeReplica, path, { program } = {}) {
   const { kind, replicas, profile } = stored;
   const setting = { makeReplica, make, kind, replicas, profile, program: programs.findForManyRuns(program) };
   const replica = make(replicas[0]);
-  const steps = stored.steps.filter((it) => hasMethod(replica, METHOD_OF[it.action] ?? it.method));
+  const steps = stored.steps.filter((it) => hasMethod(replica, METHOD_OF[it.action] ?? ownMethod(replica, it.method)));
   if (steps.length === 0) {
     throw new RangeError(`${path}: the class has none of the methods that the stored steps call, so nothing was run`);
   }

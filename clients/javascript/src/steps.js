@@ -1,5 +1,6 @@
 // The steps of a random run, as plain values that can be stored.
 import { inspect } from "node:util";
+import { OTHER_NAMES } from "./operations.js";
 
 // The actions in which a replica receives the current state of another one, whose number the step has.
 export const COPYING = ["merge", "join"];
@@ -10,9 +11,13 @@ export const METHOD_OF = {
   deliver: "receive", duplicate: "receive", merge: "merge", snapshot: "state", merge_snapshot: "merge",
   save: "save", restart: "load", join: "fork", read: "read",
 };
-// The names of methods in files, which both clients read, where they differ from those here.
-const STORED_NAMES = { insertAfter: "insert_after" };
-const OWN_NAMES = Object.fromEntries(Object.entries(STORED_NAMES).map(([own, stored]) => [stored, own]));
+// The names of methods in files, which all clients read, where those of a class differ.
+const STORED_NAMES = {
+  insertAfter: "insert_after",
+  ...Object.fromEntries(Object.entries(OTHER_NAMES).map(([stored, own]) => [own, stored])),
+};
+// The names of methods here, where those in files differ.
+const OWN_NAMES = { insert_after: "insertAfter" };
 
 /**
  * Creates a step. The action is `update`, `deliver`, `duplicate`, `merge`, `snapshot`, `merge_snapshot`, `save`,

@@ -139,6 +139,18 @@ class SendsIndexesOfRemovals extends SendsIndexes {
   }
 }
 
+/** Returns the class with the methods `insertAt` and `removeAt`, and without `insert` and `delete`. */
+export const namedByIndex = (Base) =>
+  class Named {
+    constructor(name) {
+      const own = new Base(name);
+      this.insertAt = (index, element) => own.insert(index, element);
+      this.removeAt = (index) => own.delete(index);
+      this.receive = (message) => own.receive(message);
+      this.read = () => own.read();
+    }
+  };
+
 export const BUGS = {
   "siblings stand in the order of arrival": SiblingsByArrival,
   "a delivery is reported and not applied": LosesADelivery,

@@ -5,9 +5,10 @@ import { tmpdir } from "node:os";
 import { join } from "node:path";
 import { test } from "node:test";
 import {
-  NotLinearizable, NotRepresentable, Recorder, ReplicaRaised, checkRandom, insert, remove, replay,
+  NotLinearizable, NotRepresentable, Recorder, ReplicaRaised, checkRandom, difference, insert, inserted, remove, replay,
 } from "../index.js";
-import { BUGS, Fugue, LosesADelivery, SiblingsByArrival } from "./list_replicas.js";
+import { RandomNumbers } from "../src/random_numbers.js";
+import { BUGS, Fugue, LosesADelivery, SiblingsByArrival, namedByIndex } from "./list_replicas.js";
 import { forking } from "./replicas.js";
 
 // The number of runs of correct replicas. The gate runs fewer than the thousand of the README.
@@ -15,6 +16,9 @@ const RUNS = Number(process.env.YEHATU_RUNS ?? 100);
 // The largest number of runs until a bug is found, and the largest number of commands of its history.
 const FOUND_WITHIN = 200;
 const LONGEST_HISTORY = 12;
+// The number of pairs of lists whose difference is tried, and of the elements that they can have.
+const PAIRS = 300;
+const ELEMENTS = 12;
 
 /** Throws an error where a third element is inserted at the end. */
 class ThrowsAtTheEnd extends Fugue {
@@ -103,6 +107,72 @@ test("an operation of another list is rejected", async () => {
   await recorder.stop();
 });
 
+/** Returns the list after these operations. Each insertion has to name what stands on both sides of it. */
+function applied(before, operations) {
+  const shown = [...before];
+  for (const { word, value, left, right } of operations) {
+    if (word === "remove") {
+      shown.splice(shown.indexOf(value), 1);
+      continue;
+    }
+    const index = left === null ? 0 : shown.indexOf(left) + 1;
+    assert.equal(shown[index] ?? null, right, `${value} into ${shown}`);
+    assert.ok(left === null || index > 0, `${value} into ${shown}`);
+    shown.splice(index, 0, value);
+  }
+  return shown;
+}
+
+test("an insertion at an index has the neighbours on both sides", () => {
+  assert.deepEqual(inserted([], 0, "x"), insert(null, "x", null));
+  assert.deepEqual(inserted("ab", 0, "x"), insert(null, "x", "a"));
+  assert.deepEqual(inserted("ab", 1, "x"), insert("a", "x", "b"));
+  assert.deepEqual(inserted(new Set("ab"), 2, "x"), insert("b", "x", null));
+  for (const index of [-1, 3, 0.5]) {
+    assert.throws(() => inserted("ab", index, "x"), { name: "RangeError", message: /into 2 elements: expected 0 to 2/ });
+  }
+});
+
+test("a difference leads from one list to the other", () => {
+  const random = new RandomNumbers("difference");
+  const all = Array.from({ length: ELEMENTS }, (_, number) => number + 1);
+  const chosen = () => random.sample(all, random.number(0, ELEMENTS));
+  for (let pair = 0; pair < PAIRS; pair += 1) {
+    const [before, changed] = [chosen(), chosen()];
+    // What both lists have keeps its order.
+    const kept = before.filter((it) => changed.includes(it));
+    const after = changed.map((it) => (before.includes(it) ? kept.shift() : it));
+    const operations = difference(before, after);
+    assert.deepEqual(applied(before, operations), after);
+    const isInOne = all.filter((it) => before.includes(it) !== after.includes(it));
+    assert.equal(operations.length, isInOne.length);
+  }
+});
+
+test("what is no difference is rejected", () => {
+  const rejected = (before, after, message) =>
+    assert.throws(() => difference(before, after), { name: "NotRepresentable", message });
+  rejected("aba", "b", /'a' stands twice in the list before the change: expected/);
+  rejected("ab", "aab", /'a' stands twice in the list after the change: expected/);
+  rejected([["a", 1], ["a", 2]], [["a", 1], ["a", 1]], /\[ 'a', 1 \] stands twice in the list after the change/);
+  rejected("abcd", "acbd", /'c' and 'b' changed their order: report a moved element as/);
+});
+
+test("a recorder reports the difference of two texts", async () => {
+  const recorder = new Recorder("list", ["ann", "bob"]);
+  await recorder.update("ann", difference("", "word"), { message: 1 });
+  await recorder.update("ann", difference("word", "wobld"), { message: 2 });
+  await recorder.update("ann", difference("wobld", "wobld"), { message: 3 });
+  for (const message of [1, 2, 3]) await recorder.deliver("bob", message);
+  await recorder.read("ann", "wobld");
+  await recorder.read("bob", "wobld");
+  await recorder.close();
+  assert.deepEqual(lines(recorder).slice(0, 7), [
+    "ann insert 0 1 0", "ann insert 1 2 0", "ann insert 2 3 0", "ann insert 3 4 0", "ann remove 3", "ann insert 2 5 4",
+    "ann insert 5 6 4",
+  ]);
+});
+
 test("two reads that no order explains", () =>
   requireViolation(
     "order", "no single order of the elements agrees with all reads and insertions", async (recorder) => {
@@ -145,12 +215,24 @@ test("each planted bug of a list is found and shrunk", async (t) => {
   for (const [bug, make] of Object.entries(BUGS)) {
     await t.test(bug, async () => {
       const failed = await failureOf(make);
-      if (failed instanceof ReplicaRaised) return;
       assert.ok(failed instanceof NotLinearizable, failed);
       const text = readFileSync(failed.history, "utf8");
       assert.ok(text.split("\n").length - 3 <= LONGEST_HISTORY, text);
     });
   }
+});
+
+test("a list may name its methods by the index", async () => {
+  const result = await checkRandom(namedByIndex(Fugue), "list", { seeds: RUNS, weights: { removeAt: 2 } });
+  assert.deepEqual([result.runs, [...result.unused]], [RUNS, []]);
+  const path = join(mkdtempSync(join(tmpdir(), "yehatu-")), "failure.json");
+  const failed = await failureOf(namedByIndex(SiblingsByArrival), { failure: path });
+  assert.ok(failed instanceof NotLinearizable, failed);
+  await assert.rejects(replay(SiblingsByArrival, path), /still fails: /);
+  assert.ok((await replay(namedByIndex(Fugue), path)) > 3);
+  const thrown = await failureOf(namedByIndex(ThrowsAtTheEnd));
+  assert.match(thrown.operation, /^'[abc]': insertAt\(2, 3\) threw RangeError: too far$/);
+  assert.match(thrown.message, /^ +[abc]\.insertAt\(2, 3\);$/m);
 });
 
 test("the test of a list has the indexes of its calls", async () => {

@@ -141,6 +141,16 @@ class SendsIndexesOfRemovals(SendsIndexes):
             del self.elements[message["index"] : message["index"] + 1]
 
 
+def named_by_index(base: Any) -> Any:
+    """Returns the class with the methods `insert_at` and `remove_at`, and without `insert` and `delete`."""
+    class Named:
+        def __init__(self, name: str) -> None:
+            own = base(name)
+            self.insert_at, self.remove_at, self.receive, self.read = own.insert, own.delete, own.receive, own.read
+
+    return Named
+
+
 BUGS: Dict[str, Any] = {
     "siblings stand in the order of arrival": SiblingsByArrival,
     "a delivery is reported and not applied": LosesADelivery,

@@ -1,13 +1,21 @@
 """The kind `list`: its operations, the causes of its violations, and random runs of lists."""
+import importlib.util
 import os
 import tempfile
 import unittest
-from typing import Any, Callable, List
+from typing import Any, Callable, List, Sequence
 
-from list_replicas import BUGS, Fugue, LosesADelivery, Message, SiblingsByArrival
+from list_replicas import BUGS, Fugue, LosesADelivery, Message, SiblingsByArrival, named_by_index
 from replicas import forking
 from test_random import FOUND_WITHIN, RUNS, require_small_failure
-from yehatu import NotLinearizable, NotRepresentable, Recorder, ReplicaRaised, check_random, insert, remove, replay
+from yehatu import (
+    NotLinearizable, NotRepresentable, Operation, Recorder, ReplicaRaised, check_random, difference, insert, inserted,
+    remove, replay,
+)
+
+HAS_HYPOTHESIS = importlib.util.find_spec("hypothesis") is not None
+# The number of pairs of lists whose difference is tried.
+PAIRS = 300
 
 
 class RaisesAtTheEnd(Fugue):
@@ -70,6 +78,72 @@ class Operations(unittest.TestCase):
         recorder.stop()
 
 
+def applied(before: Sequence[int], operations: Sequence[Operation]) -> List[Any]:
+    """Returns the list after these operations. Each insertion has to name what stands on both sides of it."""
+    shown: List[Any] = [*before]
+    for it in operations:
+        if it.word == "remove":
+            shown.remove(it.value)
+            continue
+        left, right = it.anchor
+        index = 0 if left is None else shown.index(left) + 1
+        if (shown[index] if index < len(shown) else None) != right:
+            raise AssertionError(f"{it} does not stand between two neighbours of {shown}")
+        shown.insert(index, it.value)
+    return shown
+
+
+class Differences(unittest.TestCase):
+    def test_an_insertion_at_an_index_has_the_neighbours_on_both_sides(self) -> None:
+        self.assertEqual(inserted([], 0, "x"), insert(None, "x", None))
+        self.assertEqual(inserted("ab", 0, "x"), insert(None, "x", "a"))
+        self.assertEqual(inserted("ab", 1, "x"), insert("a", "x", "b"))
+        self.assertEqual(inserted(iter("ab"), 2, "x"), insert("b", "x", None))
+        for index in (-1, 3):
+            with self.assertRaisesRegex(IndexError, "into 2 elements: expected 0 to 2"):
+                inserted("ab", index, "x")
+
+    @unittest.skipUnless(HAS_HYPOTHESIS, "hypothesis is not installed: apt-get install python3-hypothesis")
+    def test_a_difference_leads_from_one_list_to_the_other(self) -> None:
+        from hypothesis import given, settings, strategies
+
+        elements = strategies.lists(strategies.integers(1, 12), unique=True)
+
+        @settings(max_examples=PAIRS, deadline=None, database=None, derandomize=True)
+        @given(before=elements, changed=elements)
+        def check(before: List[int], changed: List[int]) -> None:
+            # What both lists have keeps its order.
+            kept = iter([it for it in before if it in changed])
+            after = [next(kept) if it in before else it for it in changed]
+            operations = difference(before, after)
+            self.assertEqual(applied(before, operations), after)
+            self.assertEqual(len(operations), len({*before} ^ {*after}))
+
+        check()
+
+    def test_what_is_no_difference_is_rejected(self) -> None:
+        with self.assertRaisesRegex(NotRepresentable, "'a' stands twice in the list before the change: expected"):
+            difference("aba", "b")
+        with self.assertRaisesRegex(NotRepresentable, "'a' stands twice in the list after the change: expected"):
+            difference("ab", "aab")
+        with self.assertRaisesRegex(NotRepresentable, "'c' and 'b' changed their order: report a moved element as"):
+            difference("abcd", "acbd")
+
+    def test_a_recorder_reports_the_difference_of_two_texts(self) -> None:
+        with Recorder("list", ["ann", "bob"]) as recorder:
+            recorder.update("ann", difference("", "word"), message=1)
+            recorder.update("ann", difference("word", "wobld"), message=2)
+            recorder.update("ann", difference("wobld", "wobld"), message=3)
+            for message in (1, 2, 3):
+                recorder.deliver("bob", message)
+            recorder.read("ann", "wobld")
+            recorder.read("bob", "wobld")
+        self.assertEqual(lines(recorder)[:7], [
+            "ann insert 0 1 0", "ann insert 1 2 0", "ann insert 2 3 0", "ann insert 3 4 0", "ann remove 3",
+            "ann insert 2 5 4", "ann insert 5 6 4",
+        ])
+
+
 def two_elements(recorder: Recorder) -> None:
     """Reports two insertions by replicas that know nothing of each other, and their deliveries."""
     recorder.insert("a", None, "x", None, message=1)
@@ -125,10 +199,25 @@ class RandomLists(unittest.TestCase):
 
     def test_each_planted_bug_of_a_list_is_found_and_shrunk(self) -> None:
         for bug, make in BUGS.items():
-            with self.subTest(bug=bug), self.assertRaises((NotLinearizable, ReplicaRaised)) as caught:
-                check_random(make, "list", seeds=FOUND_WITHIN)
-            if isinstance(caught.exception, NotLinearizable):
+            with self.subTest(bug=bug):
+                with self.assertRaises(NotLinearizable) as caught:
+                    check_random(make, "list", seeds=FOUND_WITHIN)
                 require_small_failure(self, caught.exception)
+
+    def test_a_list_may_name_its_methods_by_the_index(self) -> None:
+        result = check_random(named_by_index(Fugue), "list", seeds=RUNS, weights={"remove_at": 2})
+        self.assertEqual((result, result.unused), (RUNS, ()))
+        with tempfile.TemporaryDirectory() as folder:
+            path = os.path.join(folder, "failure.json")
+            with self.assertRaises(NotLinearizable):
+                check_random(named_by_index(SiblingsByArrival), "list", seeds=FOUND_WITHIN, failure=path)
+            with self.assertRaisesRegex(NotLinearizable, "still fails: "):
+                replay(SiblingsByArrival, path)
+            self.assertGreater(replay(named_by_index(Fugue), path), 3)
+        with self.assertRaises(ReplicaRaised) as caught:
+            check_random(named_by_index(RaisesAtTheEnd), "list", seeds=FOUND_WITHIN)
+        self.assertRegex(caught.exception.operation, r"^'[abc]': insert_at\(2, 3\) raised IndexError\('too far'\)$")
+        self.assertRegex(str(caught.exception), r"(?m)^ +[abc]\.insert_at\(2, 3\)$")
 
     def test_the_test_of_a_list_has_the_indexes_of_its_calls(self) -> None:
         with self.assertRaises(ReplicaRaised) as caught:

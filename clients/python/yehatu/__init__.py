@@ -6,6 +6,7 @@ replicated data type in random runs, and shrinks the first run that has a violat
 import warnings as _warnings
 from typing import Any as _Any
 
+from .differences import difference, inserted
 from .errors import FlakyRun, MonitorExited, NotLinearizable, NotRepresentable, Refused, ReplicaRaised, ReportFailed
 from .monitor import Monitor, Report
 from .operations import Operation, add, decrement, increment, insert, insert_after, remove, write
@@ -28,9 +29,11 @@ __all__ = [
     "add",
     "check_random",
     "decrement",
+    "difference",
     "increment",
     "insert",
     "insert_after",
+    "inserted",
     "remove",
     "replay",
     "write",

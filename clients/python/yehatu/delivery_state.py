@@ -5,7 +5,7 @@ from .operations import LISTS
 from .steps import Step
 
 # The methods that insert an element, which is their second argument, and those that remove their first one.
-INSERTING, REMOVING = ("insert_after", "insert"), ("remove", "delete")
+INSERTING, REMOVING = ("insert_after", "insert", "insert_at"), ("remove", "delete", "remove_at")
 
 
 class DeliveryState:

@@ -5,10 +5,10 @@ from collections.abc import Mapping
 from typing import Any, Callable, Dict, Hashable, List, NamedTuple, Optional, Sequence, Set, Tuple
 
 from . import operations
-from .delivery_state import DeliveryState
+from .delivery_state import INSERTING, REMOVING, DeliveryState
 from .errors import NotRepresentable
 from .operations import Operation
-from .profile import Profile
+from .profile import Profile, own_method
 from .recorder import Recorder, Seen
 from .returned import Returned, UnusableResult
 from .steps import COPYING, Step, call_arguments
@@ -99,6 +99,8 @@ class Driver:
         for step in steps:
             if (step.replica in self._replicas) == (step.action == "join"):
                 continue
+            if step.action == "update":
+                step = step._replace(method=own_method(self._replicas[step.replica], step.method))
             self._current = step
             try:
                 is_executed = self._handlers[step.action](step)
@@ -306,7 +308,7 @@ def _copied(value: Any, what: str, option: str) -> Any:
 def _place_of(step: Step, shown: List[Any]) -> Tuple[int, Tuple[Any, Any]]:
     """Returns the index of a list's update, and the elements that the list shows on both sides of an insertion."""
     named = step.arguments[0]
-    if step.method == "delete":
+    if step.method in REMOVING:
         return shown.index(named), (None, None)
     index = 0 if named is None else shown.index(named) + 1
     return index, (named, shown[index] if index < len(shown) else None)
@@ -316,7 +318,7 @@ def operation_of(kind: str, step: Step, message: Any, neighbours: Tuple[Any, Any
     """Returns the operation of an update, with the stamp or the identifiers of its message."""
     if kind == "counter":
         return Operation(step.method)
-    if kind == "list" and step.method == "insert":
+    if kind == "list" and step.method in INSERTING:
         left, right = neighbours
         return operations.insert(left, step.arguments[1], right)
     if kind == "register":

@@ -16,6 +16,8 @@ OPERATIONS: Dict[str, Tuple[str, ...]] = {
 }
 # The kinds whose elements have an order.
 LISTS = ("rga", "list")
+# The other names that the methods of a list with indexes may have.
+OTHER_NAMES = {"insert": "insert_at", "delete": "remove_at"}
 
 
 def operations_of(kind: str) -> Tuple[str, ...]:

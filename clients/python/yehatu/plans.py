@@ -5,7 +5,7 @@ from typing import Any, List, Set, Tuple, Union
 
 from .delivery_state import REMOVING, DeliveryState
 from .network import Network
-from .operations import LISTS, methods_of
+from .operations import LISTS
 from .profile import Traits
 from .steps import Step
 
@@ -243,7 +243,7 @@ class Planner:
         visible = self._state.visible[replica]
         if method in REMOVING and visible:
             return method, (self._random.choice(visible),)
-        return methods_of(self._kind)[0], (self._random.choice([None, *visible]), self._new_value())
+        return self._methods[0], (self._random.choice([None, *visible]), self._new_value())
 
     def _choose_amount(self) -> Tuple[int]:
         amount = self._random.choice([it for it in AMOUNTS if it == 1 or self._total + it <= MAX_TOTAL])

@@ -2,7 +2,7 @@
 import inspect
 from typing import Any, Callable, Dict, Hashable, List, Mapping, NamedTuple, Optional, Sequence, Tuple
 
-from .operations import methods_of
+from .operations import OTHER_NAMES, methods_of
 
 DELIVERIES = ("causal", "any")
 # Which parameter of a counter's update is an amount.
@@ -10,7 +10,7 @@ AMOUNT_RULE = "an amount is the first parameter of each update and is named `by`
 # The relative frequency of each method, unless the caller chooses others.
 WEIGHTS = {
     "increment": 1.0, "decrement": 1.0, "write": 1.0, "add": 2.0, "remove": 1.0, "insert_after": 3.0, "insert": 3.0,
-    "delete": 1.0,
+    "delete": 1.0, "insert_at": 3.0, "remove_at": 1.0,
 }
 
 
@@ -50,8 +50,8 @@ def traits_of(
 ) -> Traits:
     """Returns the traits of a class. Raises `TypeError` if it lacks a method or a counter's update requires a parameter
     that is no amount, and `ValueError` if it cannot keep what is promised."""
-    operations = methods_of(kind)
     replica = make_replica(name)
+    operations = [own_method(replica, it) for it in methods_of(kind)]
     merges = not _has(replica, "receive") and _has(replica, "merge")
     required = [operations[0], "read", *(("state", "merge") if merges else ("receive",))]
     required += ["save", "load"] if promised["restarts"] else []
@@ -68,6 +68,13 @@ def traits_of(
     untried = _untried_parameters(replica, methods, amounts) if kind == "counter" else ()
     chosen = _chosen_weights(methods, weights)
     return Traits(methods, merges, _has(replica, "fork"), amounts, profile, chosen, untried)
+
+
+def own_method(replica: Any, method: str) -> str:
+    """Returns the name that this replica has for a method, or the method itself if it has none."""
+    names = {**OTHER_NAMES, **{other: it for it, other in OTHER_NAMES.items()}}
+    other = names.get(method, method)
+    return other if _has(replica, other) and not _has(replica, method) else method
 
 
 def _has(replica: Any, method: str) -> bool:

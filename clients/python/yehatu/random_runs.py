@@ -7,9 +7,9 @@ from typing import Union
 
 from . import program as programs
 from .errors import NotRepresentable
-from .operations import methods_of
+from .operations import OTHER_NAMES, methods_of
 from .plans import Planner, Seed, format_seed, parse_seed
-from .profile import AMOUNT_RULE, Traits, default_names, traits_of
+from .profile import AMOUNT_RULE, Traits, default_names, own_method, traits_of
 from .program import Program
 from .random_failures import create_error, create_flaky, require_writable
 from .runs import Failure, Run, Setting, find_failure
@@ -174,7 +174,7 @@ def _finished(
 
 def _result(runs: int, kind: str, traits: Traits) -> Runs:
     result = Runs(runs)
-    result.unused = tuple(it for it in methods_of(kind) if it not in traits.methods)
+    result.unused = tuple(it for it in methods_of(kind) if not {it, OTHER_NAMES.get(it)} & {*traits.methods})
     if result.unused:
         print(f"check_random {kind}: the type has no {', '.join(result.unused)}, so it was not tried", file=sys.stderr)
     if traits.untried:
@@ -231,7 +231,8 @@ def replay(make_replica: Callable[[Hashable], Any], path: str, *, program: Progr
         make_replica, stored.kind, stored.replicas, programs.find_for_many_runs(program), stored.profile
     )
     replica = make_replica(stored.replicas[0])
-    steps = [it for it in stored.steps if callable(getattr(replica, METHOD_OF.get(it.action) or it.method, None))]
+    calls = ((it, METHOD_OF.get(it.action) or own_method(replica, it.method)) for it in stored.steps)
+    steps = [it for it, method in calls if callable(getattr(replica, method, None))]
     if not steps:
         raise ValueError(f"{path}: the class has none of the methods that the stored steps call, so nothing was run")
     run = Run(setting, steps)

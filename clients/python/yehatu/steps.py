@@ -1,6 +1,8 @@
 """The steps of a random run, as plain values that can be stored."""
 from typing import Any, Dict, Iterable, List, Mapping, NamedTuple, Sequence, Tuple
 
+from .operations import OTHER_NAMES
+
 # The actions in which a replica receives the current state of another one, whose number the step has.
 COPYING = ("merge", "join")
 # The actions in which a replica receives a message, whose number the step has.
@@ -10,6 +12,9 @@ METHOD_OF = {
     "deliver": "receive", "duplicate": "receive", "merge": "merge", "snapshot": "state", "merge_snapshot": "merge",
     "save": "save", "restart": "load", "join": "fork", "read": "read",
 }
+
+# The names of methods in files, which all clients read, where a class has other ones.
+STORED_NAMES = {other: it for it, other in OTHER_NAMES.items()}
 
 
 class Step(NamedTuple):
@@ -36,7 +41,9 @@ def call_arguments(step: Step, indexes: Mapping[int, int]) -> Tuple[Any, ...]:
 
 def to_values(steps: Iterable[Step]) -> List[List[Any]]:
     """Returns the steps as lists, for JSON."""
-    return [[it.action, it.replica, it.number, it.method, list(it.arguments)] for it in steps]
+    return [
+        [it.action, it.replica, it.number, STORED_NAMES.get(it.method, it.method), list(it.arguments)] for it in steps
+    ]
 
 
 def from_values(values: Sequence[Any]) -> List[Step]:
