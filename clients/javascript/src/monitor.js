@@ -26,6 +26,7 @@ export class Monitor {
   #isScheduled = false;
   #startError = null;
   #isClosing = false;
+  #isStopped = false;
   #hasEnded = false;
   #report = null;
   #end;
@@ -94,6 +95,7 @@ export class Monitor {
 
   /** Kills the program without waiting for replies. */
   async stop() {
+    this.#isStopped = true;
     this.#process.kill("SIGKILL");
     this.#ref();
     await this.#end;
@@ -172,7 +174,7 @@ export class Monitor {
     this.#closingLines.push(...replies.slice(count));
     this.#expected.splice(0, count);
     this.#answered += count;
-    if (this.#sent === this.#answered && !this.#isClosing) this.#unref();
+    if (this.#sent === this.#answered && !this.#isClosing && !this.#isStopped) this.#unref();
     this.#resolveWaiting();
   }
 
