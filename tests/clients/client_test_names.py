@@ -23,7 +23,23 @@ PYTHON_ALONE = {
     ("pytest_plugin", "the_files_of_a_failure_are_kept"): "pytest is for Python",
     ("operations", "an_act_that_returns_a_coroutine_is_rejected"): "JavaScript awaits what an act returns",
 }
+# The tests of clients/javascript/yjs.
+YJS_TESTS = (
+    "all_random_runs_of_yjs_pass",
+    "a_lost_update_is_found",
+    "a_lost_deletion_is_found_which_yjs_does_not_miss",
+    "a_stale_read_is_found",
+    "a_stale_array_is_found",
+    "a_character_that_changes_on_its_way_is_found",
+    "two_items_in_another_order_are_found",
+    "what_an_editor_shows_is_compared_with_its_text",
+    "changes_that_arrive_before_those_that_they_follow_are_reported_later",
+    "a_document_that_lacks_changes_at_the_end_needs_an_option",
+    "what_is_no_list_is_named_and_nothing_but_that_is_rejected",
+    "content_of_documents_that_are_not_watched_is_rejected",
+)
 JAVASCRIPT_ALONE = {
+    **{("yjs", it): "Yjs is a library of JavaScript" for it in YJS_TESTS},
     ("recorder", "an_asynchronous_act_is_one_step_with_its_report"): "Python's acts are not awaited",
     ("limits", "a_clock_that_no_number_represents_exactly_is_a_bigint"): "Python has whole numbers of any size",
 }

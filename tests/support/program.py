@@ -12,6 +12,8 @@ TOP = Path(__file__).resolve().parents[2]
 CHECK, WHOLE, EXPLAIN = (
     TOP / "crates" / name / "out" / name for name in ("ra_check_cli", "ra_monitor_cli", "ra_explain_cli")
 )
+# Where Debian's packages of Node.js are.
+NODE_PACKAGES = Path("/usr/share/nodejs")
 PROGRAM = WHOLE if "--whole" in sys.argv else CHECK
 # A run that has not ended by then is stuck, and is ended: many times what the longest one takes on a busy machine.
 SECONDS = 120

@@ -12,8 +12,6 @@ export const MAX_AMOUNT = 256;
 const COUNTING = { increment: "inc", decrement: "dec" };
 const NONE = {};
 const DONE = Promise.resolve(undefined);
-// The folder of this module, whose lines of a stack are not those of the user.
-const OWN_FOLDER = new URL(".", import.meta.url).href;
 
 /**
  * A reporter for replicas with any names, given in the order in which the type breaks ties, lowest first.
@@ -41,7 +39,7 @@ export class Recorder {
     this.#reports = new Reports(this.#translator, this.#monitor, history);
     this.#isCounter = kind === "counter";
     if (!mustClose) return;
-    const description = `the Recorder(${inspect(kind)}, ..) that was created at ${placeOf(new Error().stack)}`;
+    const description = `the Recorder(${inspect(kind)}, ..) that was created at ${unclosed.placeOf(new Error().stack)}`;
     this.#openKey = unclosed.register(this, description);
   }
 
@@ -320,10 +318,4 @@ const named = (name, value) => (value === undefined || typeof value === "functio
 function describeCall(word, replica, parameters) {
   const shown = [replica, ...parameters.filter((it) => it !== undefined && typeof it !== "function")];
   return `${word}(${shown.map((it) => inspect(it, { breakLength: Infinity })).join(", ")})`;
-}
-
-/** Returns the first place of a stack that is outside the client. */
-function placeOf(stack) {
-  const line = stack.split("\n").slice(1).find((it) => !it.includes(OWN_FOLDER)) ?? "an unknown place";
-  return line.trim().replace(/^at (?:.* \()?(?:file:\/\/)?([^()]*?)\)?$/, "$1");
 }

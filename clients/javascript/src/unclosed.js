@@ -3,6 +3,8 @@
 // The exit status of a process that leaves a recorder unclosed, unless it failed already.
 const STATUS = 3;
 const ADVICE = "await close(), or pass mustClose: false";
+// The folders of the client, whose lines of a stack are not those of the user.
+const OWN_FOLDERS = [".", "../yjs/"].map((it) => new URL(it, import.meta.url).href);
 
 // The open recorders by number.
 const open = new Map();
@@ -27,6 +29,13 @@ export function register(recorder, description) {
 /** Removes a recorder that was closed. */
 export function close(key) {
   open.delete(key);
+}
+
+/** Returns the first place of a stack that is outside the client. */
+export function placeOf(stack) {
+  const isOwn = (line) => OWN_FOLDERS.some((it) => line.includes(it));
+  const line = stack.split("\n").slice(1).find((it) => !isOwn(it)) ?? "an unknown place";
+  return line.trim().replace(/^at (?:.* \()?(?:file:\/\/)?([^()]*?)\)?$/, "$1");
 }
 
 function endProcess(code) {

@@ -5,7 +5,8 @@ import { tmpdir } from "node:os";
 import { join } from "node:path";
 import { test } from "node:test";
 import {
-  NotLinearizable, NotRepresentable, Recorder, ReplicaRaised, checkRandom, difference, insert, inserted, remove, replay,
+  NotLinearizable, NotRepresentable, Recorder, ReplicaRaised, checkRandom, difference, insert, inserted, remove,
+  replay,
 } from "../index.js";
 import { RandomNumbers } from "../src/random_numbers.js";
 import { BUGS, Fugue, LosesADelivery, SiblingsByArrival, namedByIndex } from "./list_replicas.js";
@@ -129,7 +130,8 @@ test("an insertion at an index has the neighbours on both sides", () => {
   assert.deepEqual(inserted("ab", 1, "x"), insert("a", "x", "b"));
   assert.deepEqual(inserted(new Set("ab"), 2, "x"), insert("b", "x", null));
   for (const index of [-1, 3, 0.5]) {
-    assert.throws(() => inserted("ab", index, "x"), { name: "RangeError", message: /into 2 elements: expected 0 to 2/ });
+    const expected = { name: "RangeError", message: /into 2 elements: expected 0 to 2/ };
+    assert.throws(() => inserted("ab", index, "x"), expected);
   }
 });
 

@@ -2,6 +2,7 @@
 import {
   FlakyRun, Kind, Monitor, Operation, Recorder, ReportFailed, Runs, Seen, Stamp, add, checkRandom, replay, write,
 } from "yehatu";
+import { WatchReport, Watcher, watch } from "yehatu/yjs";
 
 /** A message. */
 interface Sent {
@@ -60,6 +61,13 @@ async function record(): Promise<string> {
   const reply: string = await monitor.tell("a inc");
   await monitor.close();
   return reply;
+}
+
+/** Watches documents, and closes the watcher. */
+export async function watched(doc: { clientID: number; share: Map<string, unknown> }): Promise<WatchReport> {
+  const watcher: Watcher = watch({ ann: doc }, { window: 1 });
+  watcher.read({ doc }, "text");
+  return watcher.close({ complete: false });
 }
 
 const kind: Kind = "register";

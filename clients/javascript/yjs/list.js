@@ -1,0 +1,263 @@
+// One shared list of several documents, reported as the kind `list`.
+import { NotRepresentable } from "../src/errors.js";
+import { insert, remove } from "../src/operations.js";
+import { clockOf, isRemoved, structAt, typeOf, unitsOf } from "./items.js";
+import { elementsOf, shortly, shownName, valuesOf } from "./shown.js";
+
+// The largest number of elements of a read: a line of the text format has at most 1,048,576 bytes.
+const MOST_READ = 100_000;
+const ignore = () => {};
+
+/**
+ * A list. The changes of one transaction of one document are a message. A document has received a message when its
+ * state vector and its removed items say so. The message is reported as delivered once those are that its sender had,
+ * so that deliveries are causal also if those of Yjs are not. A document that shows more than what was reported as
+ * delivered is not read until then.
+ */
+export class WatchedList {
+  /** The number of reads that were not reported since the document showed a message before those that it needs. */
+  held = 0;
+  /** Whether a read was too long to be reported. */
+  isTooLong = false;
+  #replicas;
+  #elements;
+  #key;
+  #type;
+  #recorder;
+  // The messages in the order in which they were made, which is causal, and those of each replica.
+  #messages = [];
+  #sent;
+  // For each replica, how many messages of each other one were reported as delivered to it, and of its own as issued.
+  #delivered;
+  // Whether the replica shows what was reported as delivered to it, and no more.
+  #isClosed;
+  // The last read of each replica: its values and its elements.
+  #earlier = [];
+
+  /** `type` is its kind of shared type, and `elements` the known elements of all lists. */
+  constructor({ key, type, replicas, elements, recorder }) {
+    this.#key = key;
+    this.#type = type;
+    this.#replicas = replicas;
+    this.#elements = elements;
+    this.#recorder = recorder;
+    this.#sent = replicas.map(() => []);
+    this.#delivered = replicas.map(() => replicas.map(() => 0));
+    this.#isClosed = replicas.map(() => true);
+  }
+
+  /** Reports what this replica did in a transaction: the removal of these elements, and what it inserted since. */
+  change(replica, removed, isNew) {
+    const type = typeOf(this.#replicas[replica].doc, this.#key);
+    if (type === undefined || isRemoved(type)) return;
+    const units = unitsOf(type);
+    if (!this.#isClosed[replica]) this.#refresh(replica);
+    const needs = this.#needsOf(replica);
+    const operations = [...removed.map((it) => remove(it.name)), ...this.#insertions(replica, units, isNew)];
+    if (operations.length === 0) return;
+    const added = units.filter(isNew);
+    const message = { sender: replica, sequence: needs[replica], needs, ranges: rangesOf(added), removed, operations };
+    for (const it of removed) it.removals.push(message);
+    message.number = this.#messages.push(message);
+    this.#sent[replica].push(message);
+    this.#advance(replica);
+  }
+
+  /** Reports what a transaction brought to this replica. Returns whether there was anything. */
+  receive(replica) {
+    const hasMoved = this.#advance(replica);
+    this.#refresh(replica);
+    return hasMoved;
+  }
+
+  /** Finds out whether the replica shows what was reported as delivered to it, and no more. */
+  #refresh(replica) {
+    this.#isClosed[replica] = this.#sent.every((messages, sender) => {
+      const missing = messages.slice(this.#delivered[replica][sender]);
+      return sender === replica ? missing.length === 0 : !missing.some((it) => this.#isVisible(it, replica));
+    });
+  }
+
+  /** Reports what this replica shows, or the values that its user sees in their place. */
+  read(replica, shown) {
+    if (!this.#isClosed[replica]) this.#refresh(replica);
+    if (!this.#isClosed[replica]) {
+      this.held += 1;
+      return;
+    }
+    const type = typeOf(this.#replicas[replica].doc, this.#key);
+    if (type !== undefined && !isRemoved(type)) this.#report(replica, type, shown);
+  }
+
+  /**
+   * Ends the history. If the run is complete, each message is reported as delivered to each replica, so that one that
+   * lacks a message is found by its read.
+   */
+  finish(isComplete) {
+    if (isComplete) {
+      for (const it of this.#messages) if (!this.#isIssued(it)) this.#issueLate(it);
+    }
+    this.#replicas.forEach(({ doc }, replica) => {
+      const { id } = this.#key;
+      const type = typeOf(doc, this.#key);
+      // A list of which only the item that held it is left was removed, with the message that removed it.
+      if (type === undefined ? id !== undefined && structAt(doc, id.client, id.clock) : isRemoved(type)) return;
+      if (!isComplete) return void (type && this.read(replica));
+      for (const it of this.#messages) if (!this.#isDelivered(it, replica)) this.#deliverLate(it, replica);
+      this.#report(replica, type);
+    });
+  }
+
+  #report(replica, type, shown) {
+    const units = type === undefined ? [] : unitsOf(type);
+    if (units.length > MOST_READ) {
+      this.isTooLong = true;
+      return;
+    }
+    const values = shown ?? (type === undefined ? [] : valuesOf(type, this.#type, units));
+    const nameOf = (unit) => shownName(this.#elementOf(replica, unit), unit.value);
+    const elements = elementsOf(values, units, this.#type, nameOf, this.#earlier[replica]);
+    this.#earlier[replica] = { values, elements };
+    this.#keep(this.#recorder.read(this.#replicas[replica].name, elements));
+  }
+
+  #elementOf(replica, { client, clock, value }) {
+    const element = this.#elements.get(client, clock);
+    if (element !== undefined) return element;
+    const { name } = this.#replicas[replica];
+    throw new NotRepresentable(
+      `${name} shows ${shortly(value)}, the item ${client}:${clock}, which no watched document inserted: watch every ` +
+        "document, from before its first change on",
+    );
+  }
+
+  /** Returns the insertions of the new units, each between those that it stands between. */
+  #insertions(replica, units, isNew) {
+    const rights = [];
+    units.reduceRight((right, unit, at) => {
+      rights[at] = right;
+      return isNew(unit) ? right : unit;
+    }, undefined);
+    const { name } = this.#replicas[replica];
+    return units.flatMap((unit, at) => {
+      if (!isNew(unit)) return [];
+      const element = this.#elements.add(this, unit, `${shortly(unit.value)} ${this.#replicas[replica].ownerOf(unit)}`);
+      const nameOf = (it) => (it === undefined ? null : this.#elementOf(replica, it).name);
+      if (element === undefined) throw new NotRepresentable(`${name} inserted ${unit.client}:${unit.clock} twice`);
+      return [insert(nameOf(units[at - 1]), element.name, nameOf(rights[at]))];
+    });
+  }
+
+  /** Returns how many messages of each replica a change at this one follows, by itself or by another one. */
+  #needsOf(replica) {
+    const direct = this.#sent.map((messages, sender) => {
+      if (sender === replica) return messages.length;
+      const delivered = this.#delivered[replica][sender];
+      if (this.#isClosed[replica]) return delivered;
+      const last = messages.slice(delivered).findLastIndex((it) => this.#isVisible(it, replica));
+      return delivered + last + 1;
+    });
+    const last = direct.flatMap((count, sender) => this.#sent[sender][count - 1] ?? []);
+    return direct.map((count, sender) => Math.max(count, ...last.map((it) => it.needs[sender])));
+  }
+
+  /** Reports all that can be reported at this replica, and then at those that waited for it. */
+  #advance(first) {
+    const queue = [first];
+    let hasMoved = false;
+    while (queue.length > 0) {
+      const replica = queue.shift();
+      for (let it = this.#next(replica); it !== undefined; it = this.#next(replica)) {
+        hasMoved ||= replica === first;
+        if (it.sender === replica) {
+          this.#issue(it);
+          this.#replicas.forEach((_, other) => other !== replica && queue.push(other));
+        } else {
+          this.#deliver(it, replica);
+        }
+      }
+    }
+    return hasMoved;
+  }
+
+  /**
+   * Returns a message that can be reported at this replica, or undefined. One of its own that waits is reported before
+   * those that it does not follow.
+   */
+  #next(replica) {
+    const delivered = this.#delivered[replica];
+    const own = this.#sent[replica][delivered[replica]];
+    return this.#sent.map((messages, sender) => messages[delivered[sender]]).find((it) => {
+      if (it === undefined || !it.needs.every((count, sender) => count <= delivered[sender])) return false;
+      if (own !== undefined && it !== own && it.sequence >= own.needs[it.sender]) return false;
+      return it.sender === replica || (this.#isIssued(it) && this.#isPresent(it, replica));
+    });
+  }
+
+  #isIssued({ sender, sequence }) {
+    return sequence < this.#delivered[sender][sender];
+  }
+
+  #isDelivered({ sender, sequence }, replica) {
+    return sequence < this.#delivered[replica][sender];
+  }
+
+  /** Returns whether the document has all of a message. */
+  #isPresent({ ranges, removed }, replica) {
+    const { doc } = this.#replicas[replica];
+    return ranges.every(({ client, end }) => clockOf(doc, client) >= end) && removed.every((it) => isGone(doc, it));
+  }
+
+  /** Returns whether the document has a part of a message, other than removals that were reported in another one. */
+  #isVisible({ ranges, removed }, replica) {
+    const { doc } = this.#replicas[replica];
+    if (ranges.some(({ client, start }) => clockOf(doc, client) > start)) return true;
+    const isReported = (it) => it.removals.some((message) => this.#isDelivered(message, replica));
+    return removed.some((it) => isGone(doc, it) && !isReported(it));
+  }
+
+  #issue(message) {
+    this.#delivered[message.sender][message.sender] += 1;
+    const { name } = this.#replicas[message.sender];
+    this.#keep(this.#recorder.update(name, message.operations, { message: message.number }));
+  }
+
+  #deliver(message, replica) {
+    this.#delivered[replica][message.sender] += 1;
+    this.#keep(this.#recorder.deliver(this.#replicas[replica].name, message.number));
+  }
+
+  /** Reports a message that its sender made when it lacked others. */
+  #issueLate(message) {
+    const { sender, needs } = message;
+    for (const it of this.#messages) {
+      if (it.sequence < needs[it.sender] && !this.#isDelivered(it, sender)) this.#deliverLate(it, sender);
+    }
+    this.#issue(message);
+  }
+
+  #deliverLate(message, replica) {
+    const { name } = this.#replicas[replica];
+    if (!this.#isPresent(message, replica)) {
+      this.#recorder.note(`${name} has not applied all of message ${message.number} at the end of the run`);
+    }
+    this.#deliver(message, replica);
+  }
+
+  // A failed report is thrown when the recorder is closed.
+  #keep(reported) {
+    reported.catch(ignore);
+  }
+}
+
+const isGone = (doc, { client, clock }) => structAt(doc, client, clock)?.deleted === true;
+
+/** Returns the first and the last clock of each client in the units. */
+function rangesOf(units) {
+  const ranges = new Map();
+  for (const { client, clock } of units) {
+    const range = ranges.get(client) ?? { client, start: clock, end: clock };
+    ranges.set(client, { client, start: Math.min(range.start, clock), end: Math.max(range.end, clock + 1) });
+  }
+  return [...ranges.values()];
+}
