@@ -5,7 +5,7 @@
 // Yjs decides by client number. Where one writes at a time, and all that was written has come before the next one
 // writes, each of its answers is that of a register.
 import { createRequire } from "node:module";
-import { NotLinearizable, Recorder, checkRandom } from "../../clients/javascript/index.js";
+import { NotLinearizable, Recorder, checkRandom, inserted } from "../../clients/javascript/index.js";
 
 const Y = createRequire(import.meta.url)("yjs");
 const NAMES = ["a", "b", "c"];
@@ -114,10 +114,8 @@ class YjsRegister extends Document {
 
 /** Inserts an element, and reports it with the elements that are shown on both sides. */
 function insert(recorder, replica, index, element) {
-  const shown = replica.read();
-  const [left, right] = [shown[index - 1] ?? null, shown[index] ?? null];
-  const act = () => replica.insert(index, element);
-  return recorder.insert(replica.name, left, element, right, { act, message: element });
+  const operation = inserted(replica.read(), index, element);
+  return recorder.update(replica.name, operation, { act: () => replica.insert(index, element), message: element });
 }
 
 /** Two write at the same time and exchange their updates, as a running system would report it. */

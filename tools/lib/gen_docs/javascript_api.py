@@ -1,12 +1,18 @@
-"""docs/reference/javascript_api.md: the exported names of clients/javascript, from index.d.ts and its JSDoc."""
+"""docs/reference/javascript_api.md: the exported names of clients/javascript, from the declarations and their JSDoc."""
 import re
 
 from gen_docs.pages import Missing, closing, opening
 
 DECLARATIONS = "clients/javascript/index.d.ts"
+YJS_DECLARATIONS = "clients/javascript/yjs/index.d.ts"
 PREFACE = """
 Everything that the module `yehatu` exports. The [JavaScript client](../../clients/javascript/README.md) shows how to
 use it.
+"""
+YJS_PREFACE = """
+## The module `yehatu/yjs`
+
+Everything that it exports. [Instrument a library](../howto/instrument_a_library.md#yjs) shows how to use it.
 """
 EXPORT = re.compile(r"^export (?:declare )?(interface|class|type|function) (\w+)")
 # The constructor is described by its class, and these members by their names.
@@ -68,12 +74,12 @@ def declarations(path):
             yield Declaration(lines, at, found)
 
 
-def missing(it):
+def missing(path, it):
     if not it.comment:
-        yield f"{DECLARATIONS}:{it.line}: the exported name `{it.name}` has no JSDoc"
+        yield f"{path}:{it.line}: the exported name `{it.name}` has no JSDoc"
     for name, comment, _, line in it.members():
         if not comment and name not in OWN_DESCRIPTION:
-            yield f"{DECLARATIONS}:{line}: `{it.name}.{name}` has no JSDoc"
+            yield f"{path}:{line}: `{it.name}.{name}` has no JSDoc"
 
 
 def entry(it):
@@ -92,8 +98,9 @@ def entry(it):
 
 
 def page(top):
-    found = list(declarations(top / DECLARATIONS))
-    faults = [fault for it in found for fault in missing(it)]
+    modules = {path: list(declarations(top / path)) for path in (DECLARATIONS, YJS_DECLARATIONS)}
+    faults = [fault for path, found in modules.items() for it in found for fault in missing(path, it)]
     if faults:
         raise Missing(faults)
-    return opening("JavaScript API", DECLARATIONS) + PREFACE + "".join(entry(it) for it in found) + closing(1)
+    text, yjs = ("".join(entry(it) for it in found) for found in modules.values())
+    return opening("JavaScript API", DECLARATIONS) + PREFACE + text + YJS_PREFACE + yjs + closing(1)
