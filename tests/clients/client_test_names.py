@@ -36,6 +36,7 @@ YJS_TESTS = (
     "changes_that_arrive_before_those_that_they_follow_are_reported_later",
     "a_document_that_lacks_changes_at_the_end_needs_an_option",
     "what_is_no_list_is_named_and_nothing_but_that_is_rejected",
+    "a_watcher_that_is_left_open_fails_the_process",
     "content_of_documents_that_are_not_watched_is_rejected",
 )
 JAVASCRIPT_ALONE = {

@@ -1,5 +1,6 @@
 // The lists of Yjs, watched: random runs, faults of the network and of what is shown, and what cannot be reported.
 import assert from "node:assert/strict";
+import { spawnSync } from "node:child_process";
 import { test } from "node:test";
 import { NotLinearizable, NotRepresentable } from "../index.js";
 import { watch } from "../yjs/index.js";
@@ -208,6 +209,16 @@ test("what is no list is named, and nothing but that is rejected", async () => {
   const { lists, unchecked } = await second.close();
   assert.deepEqual(unchecked, ["Y.Map 'settings'"]);
   assert.equal(lists.length, 1);
+});
+
+test("a watcher that is left open fails the process", () => {
+  const source = `import { watch } from "./yjs/index.js";
+    import { Y } from "./test/yjs_editors.js";
+    watch([new Y.Doc()]);`;
+  const options = { cwd: new URL("..", import.meta.url), encoding: "utf8" };
+  const ran = spawnSync(process.execPath, ["--input-type=module", "--eval", source], options);
+  assert.equal(ran.status, 3, ran.stderr);
+  assert.match(ran.stderr, /^yehatu: the watch\(\.\.\) that was called at .*: not closed, so the last reports were/m);
 });
 
 test("content of documents that are not watched is rejected", async () => {

@@ -1,5 +1,5 @@
 // The types of the module `yehatu/yjs`.
-import type { MonitorOptions, Report } from "yehatu";
+import type { MonitorOptions, Report } from "../index.js";
 
 /** A `Y.Doc`. */
 export interface SharedDocument {

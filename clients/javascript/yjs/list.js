@@ -97,15 +97,25 @@ export class WatchedList {
     if (isComplete) {
       for (const it of this.#messages) if (!this.#isIssued(it)) this.#issueLate(it);
     }
-    this.#replicas.forEach(({ doc }, replica) => {
-      const { id } = this.#key;
+    for (const [replica, { doc }] of this.#replicas.entries()) {
       const type = typeOf(doc, this.#key);
-      // A list of which only the item that held it is left was removed, with the message that removed it.
-      if (type === undefined ? id !== undefined && structAt(doc, id.client, id.clock) : isRemoved(type)) return;
-      if (!isComplete) return void (type && this.read(replica));
-      for (const it of this.#messages) if (!this.#isDelivered(it, replica)) this.#deliverLate(it, replica);
-      this.#report(replica, type);
-    });
+      if (this.#wasRemoved(doc, type)) continue;
+      if (isComplete) this.#complete(replica, type);
+      else this.read(replica);
+    }
+  }
+
+  /** Returns whether the document has removed the list. Then it may still have the item that held it. */
+  #wasRemoved(doc, type) {
+    const { id } = this.#key;
+    if (type !== undefined) return isRemoved(type);
+    return id !== undefined && structAt(doc, id.client, id.clock) !== undefined;
+  }
+
+  /** Reports all messages as delivered to this replica, and what it shows. */
+  #complete(replica, type) {
+    for (const it of this.#messages) if (!this.#isDelivered(it, replica)) this.#deliverLate(it, replica);
+    this.#report(replica, type);
   }
 
   #report(replica, type, shown) {
