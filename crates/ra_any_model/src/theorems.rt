@@ -79,8 +79,8 @@ pub fn new_read_decides_agreement()
 
 /// Theorem: let a tracker represent the visibility of a history, with counts that do not exceed what each replica
 /// issued. Two labels see the same updates exactly if they see as many of each replica. A label sees what was delivered
-/// to a replica exactly if it sees as many of each replica as were delivered. Two replicas have the same updates exactly
-/// if as many of each replica were delivered to both.
+/// to a replica exactly if it sees as many of each replica as were delivered. Two replicas have the same updates
+/// exactly if as many of each replica were delivered to both.
 pub fn same_updates_iff_same_counts()
     ensures labels { (tracked : Tracked) (past : History) (m n : ℕ) → IsVisibilityOf tracked past
         → m < labels_in tracked → n < labels_in tracked → CountsIssued tracked (count_in (seen_in tracked m))

@@ -1,5 +1,5 @@
-//! Tests of lists of any editor, by the crates below the monitor: the rewriting and the states of a list, its edges, what
-//! a replica has of it, its witness, and the effects of its operations. They state what no clause does. The crate
+//! Tests of lists of any editor, by the crates below the monitor: the rewriting and the states of a list, its edges,
+//! what a replica has of it, its witness, and the effects of its operations. They state what no clause does. The crate
 //! contains nothing else.
 #![tactic(auto)]
 
