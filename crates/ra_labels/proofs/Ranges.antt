@@ -72,15 +72,26 @@ module _ (xs : List ℕ) (at x : ℕ) (up : rises xs ≡ true) (within : at ≤ 
   inserted_step k short =
       let long = length-insert xs at x within in
       elim (cases_lt (suc k) at) [
-        | inl less ↦ omega (arith, front k (omega arith), front (suc k) less,
-            rises-index xs up k (suc k) (omega arith) (omega arith))
+        | inl less ↦ omega (
+          arith,
+          front k (omega arith),
+          front (suc k) less,
+          rises-index xs up k (suc k) (omega arith) (omega arith),
+        )
         | inr low ↦ elim (cases_eq (suc k) at) [
-          | inl is ↦ omega (arith, front k (omega arith), below k (omega arith),
-              subst (λ j. get_or (insert xs at x) j 0 ≡ x) (sym is) here)
+          | inl is ↦ omega (
+            arith,
+            front k (omega arith),
+            below k (omega arith),
+            subst (λ j. get_or (insert xs at x) j 0 ≡ x) (sym is) here,
+          )
           | inr other ↦ elim (cases_eq k at) [
-            | inl same ↦ omega (arith, behind k (omega arith),
-                subst (λ j. get_or (insert xs at x) j 0 ≡ x) (sym same) here,
-                subst (λ j. x < get_or xs j 0) (sym same) (above (omega arith)))
+            | inl same ↦ omega (
+              arith,
+              behind k (omega arith),
+              subst (λ j. get_or (insert xs at x) j 0 ≡ x) (sym same) here,
+              subst (λ j. x < get_or xs j 0) (sym same) (above (omega arith)),
+            )
             | inr more ↦ further k (omega arith) (omega arith)
           ]
         ]
@@ -88,8 +99,12 @@ module _ (xs : List ℕ) (at x : ℕ) (up : rises xs ≡ true) (within : at ≤ 
     where
       further : (k : ℕ) → at < k → k < length xs → get_or (insert xs at x) k 0 < get_or (insert xs at x) (suc k) 0
       further zero more short = absurd (omega arith)
-      further (suc k) more short = omega (arith, behind k (omega arith), behind (suc k) (omega arith),
-          rises-index xs up k (suc k) (omega arith) short)
+      further (suc k) more short = omega (
+        arith,
+        behind k (omega arith),
+        behind (suc k) (omega arith),
+        rises-index xs up k (suc k) (omega arith) short,
+      )
 
   -- a rising list rises with one more element between the smaller and the greater ones
   pub insert_rises : rises (insert xs at x) ≡ true
