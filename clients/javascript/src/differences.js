@@ -26,13 +26,12 @@ export function inserted(before, index, element) {
  * their order.
  */
 export function difference(before, after) {
-  const old = positionsOf("before", before);
-  const fresh = positionsOf("after", after);
-  const elements = [...fresh.entries()].sort(([, one], [, other]) => one - other).map(([it]) => it);
+  const [shown, elements] = [[...before], [...after]];
+  const old = positionsOf("before", shown);
+  const fresh = positionsOf("after", elements);
   const kept = elements.filter((it) => old.get(it) !== undefined);
   kept.slice(1).forEach((right, at) => requireOrder(old, kept[at], right));
-  const found = [...old.entries()].sort(([, one], [, other]) => one - other).map(([it]) => it)
-    .filter((it) => fresh.get(it) === undefined).map((it) => remove(it));
+  const found = shown.filter((it) => fresh.get(it) === undefined).map((it) => remove(it));
   let passed = 0;
   elements.forEach((it, at) => {
     if (old.get(it) === undefined) found.push(insert(elements[at - 1] ?? null, it, kept[passed] ?? null));

@@ -108,7 +108,7 @@ test("an operation of another list is rejected", async () => {
   await recorder.stop();
 });
 
-/** Returns the list after these operations. Each insertion has to name what stands on both sides of it. */
+/** Returns the list after these operations. Each insertion has to name its neighbours. */
 function applied(before, operations) {
   const shown = [...before];
   for (const { word, value, left, right } of operations) {

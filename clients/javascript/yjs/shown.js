@@ -22,7 +22,7 @@ export function shownName({ name, value }, shown) {
  * out, or the elements of an array. A type that this replica did not open yet shows its units.
  */
 export function valuesOf(type, name, units) {
-  if (name === "Y.Text" && typeof type.toDelta === "function") return [...type.toString().split("")];
+  if (name === "Y.Text" && typeof type.toDelta === "function") return type.toString().split("");
   if (name === "Y.Array" && typeof type.toArray === "function") return type.toArray();
   return compared(units, name).map((it) => it.value);
 }

@@ -79,7 +79,7 @@ class Operations(unittest.TestCase):
 
 
 def applied(before: Sequence[int], operations: Sequence[Operation]) -> List[Any]:
-    """Returns the list after these operations. Each insertion has to name what stands on both sides of it."""
+    """Returns the list after these operations. Each insertion has to name its neighbours."""
     shown: List[Any] = [*before]
     for it in operations:
         if it.word == "remove":

@@ -12,6 +12,8 @@ WEIGHTS = {
     "increment": 1.0, "decrement": 1.0, "write": 1.0, "add": 2.0, "remove": 1.0, "insert_after": 3.0, "insert": 3.0,
     "delete": 1.0, "insert_at": 3.0, "remove_at": 1.0,
 }
+# Each of two names that a method may have, with the other one.
+PAIRED_NAMES = {**OTHER_NAMES, **{other: it for it, other in OTHER_NAMES.items()}}
 
 
 class Profile(NamedTuple):
@@ -72,8 +74,7 @@ def traits_of(
 
 def own_method(replica: Any, method: str) -> str:
     """Returns the name that this replica has for a method, or the method itself if it has none."""
-    names = {**OTHER_NAMES, **{other: it for it, other in OTHER_NAMES.items()}}
-    other = names.get(method, method)
+    other = PAIRED_NAMES.get(method, method)
     return other if _has(replica, other) and not _has(replica, method) else method
 
 

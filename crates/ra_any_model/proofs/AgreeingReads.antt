@@ -11,12 +11,12 @@ use Rattle.ra_labels.specs.declared.label.Label.{Label}
 use Rattle.ra_labels.specs.declared.command.Command.TheVariants.{Operate}
 use Rattle.ra_labels.specs.Records.{Records, label_count, labels_of, next_label}
 use Rattle.ra_labels.specs.Visibility.{has_delivered, sees}
-use Rattle.ra_labels.specs.Agreement.{is_seen_by_both, sees_the_same, agrees_with, agrees_with_earlier, reads_agree}
+use Rattle.ra_labels.specs.Agreement.{is_seen_alike, sees_the_same, agrees_with, agrees_with_earlier, reads_agree}
 use Rattle.ra_labels.proofs.Counted.{numbers_below_count}
 use Rattle.ra_labels.proofs.InLists.{list_all-contains, list_all-from_contains}
 use Rattle.ra_labels.proofs.Members.{head_or_behind, at_head, behind_head, none_there}
 use Rattle.ra_theorems.proofs.TheoremIndex.{sees_earlier_updates-updates, delivered_are_updates-there, delivered_are_updates-updates}
-use Rattle.ra_any_model.proofs.Ranges.{range_has}
+use Rattle.ra_labels.proofs.Ranges.{in_range}
 
 -- ---- a label sees what was delivered to a replica
 same_truth : (a b : Bool) → cond a b (not b) ≡ true → a ≡ b
@@ -45,13 +45,13 @@ pub same_exactly : (records : Records) (by m : ℕ) → (sees_the_same records b
 same_exactly records by m = (
   (λ same n. elim (cases_lt n (label_count records)) [
     | inl below ↦ same_truth (sees records m n) (has_delivered records by n)
-        (list_all-contains (is_seen_by_both records by m) (range_with_len 0 (label_count records)) n same
-        (range_has 0 (label_count records) n (omega arith) (omega (arith, below))))
+        (list_all-contains (is_seen_alike records by m) (range_with_len 0 (label_count records)) n same
+        (in_range 0 (label_count records) n (omega arith) (omega (arith, below))))
     | inr above ↦
         let beyond : ¬ (n < label_count records) = λ below. absurd (omega (arith, below, above)) in
         sees_beyond records m n beyond ∙ sym (had_beyond records by n beyond)
   ]),
-  (λ each. list_all-from_contains (is_seen_by_both records by m) (range_with_len 0 (label_count records))
+  (λ each. list_all-from_contains (is_seen_alike records by m) (range_with_len 0 (label_count records))
       (λ n there. truth_same (sees records m n) (has_delivered records by n) (each n))),
 )
 

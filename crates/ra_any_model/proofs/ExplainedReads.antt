@@ -18,11 +18,12 @@ use Rattle.ra_labels.specs.declared.command.Command.TheVariants.{Operate}
 use Rattle.ra_labels.specs.Agreement.{agrees_with_earlier, reads_agree}
 use Rattle.ra_labels.proofs.InLists.{bool_same}
 use Rattle.ra_labels.proofs.Members.{there-kept, kept-there}
+use Rattle.ra_labels.proofs.Ranges.{in_range}
 use Rattle.ra_any_model.specs.Deterministic.{Deterministic, state_from, state_after}
-use Rattle.ra_any_model.specs.Explained.{numbers_of, must_come_before, updates_in, seen_in, IsAnswerAfter, EachReadIsAnswered, Explains}
+use Rattle.ra_any_model.specs.Explained.{numbers_of, must_come_before, updates_in, seen_updates_in, IsAnswerAfter, EachReadIsAnswered, Explains}
 use Rattle.ra_any_model.specs.Replayed.{is_read_after, value_read_after, replayed}
 use Rattle.ra_theorems.proofs.TheoremIndex.{sees_earlier_updates-earlier}
-use Rattle.ra_any_model.proofs.Ranges.{range_has, range_extends, filter_same, found}
+use Rattle.ra_any_model.proofs.Ranges.{range_extends, filter_same, found}
 use Rattle.ra_any_model.proofs.AgreeingReads.{agree_exactly, sees_beyond}
 
 -- ---- explained reads agree
@@ -39,7 +40,7 @@ pub answered_agree : (State : Type 0) (specification : Deterministic State) (val
     → reads_agree value_of records ≡ true
 answered_agree State specification value_of records sequence answered =
     (agree_exactly value_of records).1 (λ read other value second there with reads others same.
-    one_answer State specification (seen_in records sequence read.number) (seen_in records sequence other.number)
+    one_answer State specification (seen_updates_in records sequence read.number) (seen_updates_in records sequence other.number)
     value second (filter_same (sees records read.number) (sees records other.number) sequence same)
     (answered read value there reads) (answered other second with others))
 
@@ -78,11 +79,11 @@ pointwise_itself [] = refl
 pointwise_itself (x ∷ xs) = and_from (nat_eq x x) (pointwise nat_eq xs xs) (eq-eqb x x refl) (pointwise_itself xs)
 
 -- labels of which the execution order has the same seen ones see the same
-seen_alike : (records : Records) (m k : ℕ) → seen_in records (numbers_of records) m ≡ seen_in records (numbers_of records) k
+seen_alike : (records : Records) (m k : ℕ) → seen_updates_in records (numbers_of records) m ≡ seen_updates_in records (numbers_of records) k
     → (n : ℕ) → sees records m n ≡ sees records k n
 seen_alike records m k same n = elim (cases_lt n (label_count records)) [
   | inl below ↦
-      let there = range_has 0 (label_count records) n (omega arith) (omega (arith, below)) in
+      let there = in_range 0 (label_count records) n (omega arith) (omega (arith, below)) in
       bool_same (sees records m n) (sees records k n)
       (λ seen. (there-kept (sees records k) (numbers_of records) n
       (subst (λ xs. Contains xs n) same (kept-there (sees records m) (numbers_of records) n there seen))).1)
@@ -101,17 +102,17 @@ some_there (Some value) some = (value, refl)
 -- a read that is found returned the value
 replayed_value : (value_of : Op → Option ℕ) (records : Records) → reads_agree value_of records ≡ true → (read : Label)
     (value : ℕ) → Contains (labels_of records) read → value_of read.op ≡ Some value
-    → value_read_after value_of records (seen_in records (numbers_of records) read.number) ≡ value
+    → value_read_after value_of records (seen_updates_in records (numbers_of records) read.number) ≡ value
 replayed_value value_of records agree read value there reads =
-    let mine = seen_in records (numbers_of records) read.number in
+    let mine = seen_updates_in records (numbers_of records) read.number in
     let passes = and_from (is_some (value_of read.op)) (pointwise nat_eq mine mine) (ap is_some reads)
     (pointwise_itself mine) in
     let (label, is, has, good) = found (is_read_after value_of records mine) (labels_of records) read there passes in
     let parts = and_parts (is_some (value_of label.op))
-    (pointwise nat_eq (seen_in records (numbers_of records) label.number) mine) good in
+    (pointwise nat_eq (seen_updates_in records (numbers_of records) label.number) mine) good in
     let (second, others) = some_there (value_of label.op) parts.0 in
     let alike = seen_alike records label.number read.number
-    (pointwise_same (seen_in records (numbers_of records) label.number) mine parts.1) in
+    (pointwise_same (seen_updates_in records (numbers_of records) label.number) mine parts.1) in
     ap (λ o. option_map_or (λ (l : Label). unwrap_or (value_of l.op) 0) o 0) is
     ∙ ap (λ o. unwrap_or o 0) others
     ∙ (agree_exactly value_of records).0 agree label read second value has there others reads alike
@@ -123,8 +124,8 @@ agreeing_explained value_of records agree = record {
   visibility = range_extends (must_come_before records) (in_turn records) 0 (label_count records);
   updates = ap is_some (replays value_of records [] (updates_in records (numbers_of records)));
   reads = λ read value there reads. (
-    seen_in records (numbers_of records) read.number,
-    replays value_of records [] (seen_in records (numbers_of records) read.number),
+    seen_updates_in records (numbers_of records) read.number,
+    replays value_of records [] (seen_updates_in records (numbers_of records) read.number),
     replayed_value value_of records agree read value there reads,
   );
 }

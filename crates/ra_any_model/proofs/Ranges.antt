@@ -1,25 +1,12 @@
--- Lemmas on the numbers of a range, and on lists that a test keeps or finds something in.
+-- Lemmas on ranges in an order, and on lists that a test keeps or finds something in.
 use Rattle.std.proofs.Common.{◌≡◌, ℕ, zero, suc, ◌+◌, ◌<◌, Bool, true, false, List, [], ◌∷◌, filter, cond, Some, refl, sym, ap, ◌∙◌, inl, inr, arith}
-use Rattle.std.specs.Prelude.{◌≤◌, not, Contains}
+use Rattle.std.specs.Prelude.{not, Contains}
 use Rattle.std.specs.List.{list_all, find, range_with_len}
-use Rattle.std.proofs.lemmas.Bool.{false≢true, cases_Bool, cases_eq, cond-true, cond-false, and_from, not_from_false}
+use Rattle.std.proofs.lemmas.Bool.{false≢true, cases_Bool, cond-true, cond-false, and_from, not_from_false}
 use Rattle.ra_labels.specs.Linearization.{extends}
 use Rattle.ra_labels.proofs.InLists.{list_all-from_contains}
 use Rattle.ra_labels.proofs.Members.{head_or_behind, at_head, behind_head, none_there}
-
-pub range_has : (a n k : ℕ) → a ≤ k → k < a + n → Contains (range_with_len a n) k
-range_has a zero k from to = absurd (omega arith)
-range_has a (suc n) k from to = elim (cases_eq a k) [
-  | inl is ↦ at_head a (range_with_len (a + 1) n) k is
-  | inr other ↦ behind_head a (range_with_len (a + 1) n) k (range_has (a + 1) n k (omega arith) (omega arith))
-]
-
-pub range_from : (a n k : ℕ) → Contains (range_with_len a n) k → a ≤ k
-range_from a zero k there = absurd (none_there k there)
-range_from a (suc n) k there = elim (head_or_behind a (range_with_len (a + 1) n) k there) [
-  | inl is ↦ omega (arith, is)
-  | inr further ↦ omega (arith, range_from (a + 1) n k further)
-]
+use Rattle.ra_labels.proofs.Ranges.{range_within}
 
 -- a range extends an order in which no number precedes a smaller one
 pub range_extends : (precedes : ℕ → ℕ → Bool) → ((p q : ℕ) → p < q → precedes q p ≡ false) → (a n : ℕ)
@@ -29,7 +16,7 @@ range_extends precedes apart a (suc n) =
     and_from (list_all (λ q. not (precedes q a)) (range_with_len (a + 1) n))
     (extends precedes (range_with_len (a + 1) n))
     (list_all-from_contains (λ q. not (precedes q a)) (range_with_len (a + 1) n) (λ q there.
-    not_from_false (precedes q a) (apart a q (omega (arith, range_from (a + 1) n q there)))))
+    not_from_false (precedes q a) (apart a q (omega (arith, (range_within (a + 1) n q there).0)))))
     (range_extends precedes apart (a + 1) n)
 
 -- tests that agree keep the same elements

@@ -24,8 +24,8 @@ abbrev pub updates_in : Records → List ℕ → List ℕ
 updates_in records sequence = filter (is_update_at records) sequence
 
 -- the updates that label n sees, in the sequence's order
-abbrev pub seen_in : Records → List ℕ → ℕ → List ℕ
-seen_in records sequence n = filter (sees records n) sequence
+abbrev pub seen_updates_in : Records → List ℕ → ℕ → List ℕ
+seen_updates_in records sequence n = filter (sees records n) sequence
 
 -- holds if the updates of these labels lead to a state in which a read returns the value
 abbrev pub IsAnswerAfter : (State : Type 0) → Deterministic State → List ℕ → ℕ → Type 0
@@ -36,7 +36,7 @@ IsAnswerAfter State specification updates value =
 abbrev pub EachReadIsAnswered : (State : Type 0) → Deterministic State → (Op → Option ℕ) → Records → List ℕ → Type 0
 EachReadIsAnswered State specification value_of records sequence =
     (read : Label) (value : ℕ) → Contains (labels_of records) read → value_of read.op ≡ Some value
-    → IsAnswerAfter State specification (seen_in records sequence read.number) value
+    → IsAnswerAfter State specification (seen_updates_in records sequence read.number) value
 
 -- Holds if the specification and the sequence explain the records: the sequence has each label once and nothing else,
 -- no label stands behind one that it must precede, the updates are admitted, and the reads are answered.

@@ -7,12 +7,12 @@ use Rattle.ra_labels.specs.declared.operation.Op.{Op}
 use Rattle.ra_labels.specs.declared.label.Label.{Label}
 use Rattle.ra_labels.specs.Records.{Records, labels_of}
 use Rattle.ra_any_model.specs.Deterministic.{Deterministic}
-use Rattle.ra_any_model.specs.Explained.{numbers_of, seen_in}
+use Rattle.ra_any_model.specs.Explained.{numbers_of, seen_updates_in}
 
 -- `true` if the label is a read that sees exactly these updates, in execution order
 abbrev pub is_read_after : (Op → Option ℕ) → Records → List ℕ → Label → Bool
 is_read_after value_of records updates label =
-    is_some (value_of label.op) && pointwise nat_eq (seen_in records (numbers_of records) label.number) updates
+    is_some (value_of label.op) && pointwise nat_eq (seen_updates_in records (numbers_of records) label.number) updates
 
 -- the value of a read that sees exactly these updates; 0 if there is none
 abbrev pub value_read_after : (Op → Option ℕ) → Records → List ℕ → ℕ

@@ -8,8 +8,6 @@
 
 mod first;
 mod reads;
-#[cfg(test)]
-mod tests;
 pub mod theorems;
 mod trimming;
 

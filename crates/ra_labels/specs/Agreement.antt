@@ -10,13 +10,13 @@ use Rattle.ra_labels.specs.Records.{Records, label_count, labels_of}
 use Rattle.ra_labels.specs.Visibility.{sees, has_delivered}
 
 -- `true` if label n was delivered to the replica exactly if label m sees it
-abbrev pub is_seen_by_both : Records → ℕ → ℕ → ℕ → Bool
-is_seen_by_both records by m n =
+abbrev pub is_seen_alike : Records → ℕ → ℕ → ℕ → Bool
+is_seen_alike records by m n =
     if sees records m n then has_delivered records by n else not (has_delivered records by n)
 
 -- `true` if the replica's next label will see exactly the labels that label m sees
 abbrev pub sees_the_same : Records → ℕ → ℕ → Bool
-sees_the_same records by m = list_all (is_seen_by_both records by m) (range_with_len 0 (label_count records))
+sees_the_same records by m = list_all (is_seen_alike records by m) (range_with_len 0 (label_count records))
 
 -- `true` if the label is no read, sees other labels than the replica's next one will, or read this value
 abbrev pub agrees_with : (Op → Option ℕ) → Records → ℕ → ℕ → Label → Bool

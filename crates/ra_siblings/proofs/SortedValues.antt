@@ -1,11 +1,12 @@
 -- Lemmas on values that are sorted, each kept once.
 use Rattle.std.proofs.Common.{◌≡◌, ℕ, suc, ◌+◌, ◌<◌, Bool, true, List, eqb, length, get_or, sym, ap, ◌∙◌, subst, arith, add-one}
-use Rattle.std.specs.Prelude.{◌↔◌, nat_eq, Contains, IsPermutation}
+use Rattle.std.specs.Prelude.{◌↔◌, ◌&&◌, nat_eq, Contains, IsPermutation}
 use Rattle.std.specs.List.{dedup}
 use Rattle.std.specs.List.Sorted.{IsSorted}
 use Rattle.std.specs.Ordering.{nat_cmp}
 use Rattle.std.specs.Cmp.Lexicographic.{pointwise, pointwise_decides}
 use Rattle.std.specs.Cmp.{unsigned_Decides}
+use Rattle.std.proofs.lemmas.Bool.{and_parts, and_from}
 use Rattle.std.proofs.lemmas.List.Kept.{Contains-dedup_nat, Contains-from_dedup}
 use Rattle.std.proofs.lemmas.List.Sorted.{Contains-permutation, IsPermutation-sym}
 use Rattle.std.proofs.lemmas.Map.Keys.{IsStrictlyIncreasing-dedup}
@@ -27,17 +28,21 @@ once_same xs ys same = (same-exactly (dedup eqb ys) xs).1 (λ x. (
   (λ there. Contains-dedup_nat ys x (Contains-permutation xs ys x same there)),
 ))
 
--- a rising list has the same values exactly if it is the list of each of them once, in order
-pub same_as_once : (list once xs : List ℕ) → rises list ≡ true → rises once ≡ true → have_same_elements once xs ≡ true
-    → pointwise nat_eq once list ≡ have_same_elements list xs
-same_as_once list once xs up also same =
+-- a list rises and has the same values exactly if it is the list of each of them once, in order
+pub same_as_once : (list once xs : List ℕ) → rises once ≡ true → have_same_elements once xs ≡ true
+    → pointwise nat_eq once list ≡ (rises list && have_same_elements list xs)
+same_as_once list once xs also same =
     let decides = pointwise_decides unsigned_Decides once list in
     let once_in = (same-exactly once xs).0 same in
-    bool_same (pointwise nat_eq once list) (have_same_elements list xs)
-    (λ equal. subst (λ ys. have_same_elements ys xs ≡ true) (decides.0 equal) same)
+    bool_same (pointwise nat_eq once list) (rises list && have_same_elements list xs)
+    (λ equal.
+    let is = decides.0 equal in
+    and_from (rises list) (have_same_elements list xs) (subst (λ ys. rises ys ≡ true) is also)
+    (subst (λ ys. have_same_elements ys xs ≡ true) is same))
     (λ right.
-    let list_in = (same-exactly list xs).0 right in
-    decides.1 (same_rising once list also up (λ x. (
+    let parts = and_parts (rises list) (have_same_elements list xs) right in
+    let list_in = (same-exactly list xs).0 parts.1 in
+    decides.1 (same_rising once list also parts.0 (λ x. (
       (λ there. (list_in x).1 ((once_in x).0 there)),
       (λ there. (once_in x).1 ((list_in x).0 there)),
     ))))

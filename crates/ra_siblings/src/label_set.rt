@@ -65,6 +65,18 @@ impl LabelSet {
         self.labels.as_slice()
     }
 
+    /// Returns `true` if the label is in the set.
+    ///
+    /// # Complexity
+    ///
+    /// O(n) for `n` labels.
+    pub fn contains(&self, label: u32) -> bool
+        // The result is `true` exactly if the label is in the set.
+        ensures { IsTrue result ↔ Contains self.now label }
+    {
+        self.labels.contains(&label)
+    }
+
     /// Returns an equal set that owns its memory.
     ///
     /// # Errors

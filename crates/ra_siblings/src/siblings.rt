@@ -1,5 +1,5 @@
 //! The siblings of each replica.
-ghost use Rattle.std.specs.Prelude.{◌≡◌, ◌↔◌, ◌⊎◌, ℕ, ◌<◌, ◌++◌, ◌∷◌, [], true, Some, None, length, replicate, set, Contains, IfOk, OnOk, OnErr};
+ghost use Rattle.std.specs.Prelude.{◌≡◌, ◌↔◌, ◌⊎◌, ◌&&◌, ℕ, ◌<◌, ◌++◌, ◌∷◌, [], true, Some, None, length, replicate, set, Contains, IsTrue, IfOk, OnOk, OnErr};
 ghost use Rattle.ra_labels.specs.Lists.{rises, have_same_elements};
 ghost use Rattle.ra_siblings.specs.Kept.{siblings_of, issued_at, issued_as, value_at, values_of};
 
@@ -59,6 +59,28 @@ impl Siblings {
         ensures { result ≡ length self.now.labels }
     {
         self.labels.len()
+    }
+
+    /// Returns the number of replicas.
+    pub fn replica_count(&self) -> usize
+        // The result is the number of replicas.
+        ensures { result ≡ length self.now.replicas }
+    {
+        self.replicas.len()
+    }
+
+    /// Returns `true` if the label is a sibling of the replica.
+    ///
+    /// # Complexity
+    ///
+    /// O(s), where the replica has `s` siblings.
+    pub fn is_sibling(&self, replica: u8, label: u32) -> bool
+        // The replica exists.
+        requires { replica < length self.now.replicas }
+        // The result is `true` exactly if the label is a sibling of the replica.
+        ensures { IsTrue result ↔ Contains (siblings_of self.now replica) label }
+    {
+        self.replicas[replica as usize].contains(label)
     }
 
     /// Returns the labels of the replica's siblings, in the order of their numbers.
@@ -210,7 +232,7 @@ impl Siblings {
         Ok(values)
     }
 
-    /// Returns `true` if the list has exactly the values of the replica's siblings.
+    /// Returns `true` if the list has exactly the values of the replica's siblings, each once, in their order.
     ///
     /// # Errors
     ///
@@ -221,12 +243,11 @@ impl Siblings {
     /// O(s log s), where the replica has `s` siblings.
     pub fn is_right_read(&self, replica: u8, list: &[u32]) -> Result<bool, NoMemory>
         // The replica exists.
-        requires there { replica < length self.now.replicas }
-        // The list increases strictly.
-        requires rising { rises list.now ≡ true }
-        // The result is `true` exactly if the list has the values of the replica's siblings, and no others.
+        requires { replica < length self.now.replicas }
+        // The result is `true` exactly if the list increases strictly and has the values of the replica's siblings, and
+        // no others.
         ensures { IfOk result (λ is_right. is_right
-            ≡ have_same_elements list.now (values_of self.now (siblings_of self.now replica))) }
+            ≡ (rises list.now && have_same_elements list.now (values_of self.now (siblings_of self.now replica)))) }
     {
         let values = self.values(replica)?;
         Ok(values.as_slice() == list)

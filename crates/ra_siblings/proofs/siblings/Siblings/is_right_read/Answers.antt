@@ -10,5 +10,5 @@ returns c =
     let kept = c.args.self.now in
     let list = c.args.list.now in
     c.eq.ensures ∙ ap (λ xs. pointwise nat_eq xs list) c.as_slice.ensures.value
-    ∙ same_as_once list c.in_ok-values.values.items (values_of kept (siblings_of kept c.args.replica)) c.requires.rising
+    ∙ same_as_once list c.in_ok-values.values.items (values_of kept (siblings_of kept c.args.replica))
     c.in_ok-values.ensures.rising c.in_ok-values.ensures.values

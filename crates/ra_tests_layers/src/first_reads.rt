@@ -1,8 +1,8 @@
-//! Tests of what no clause states: calls succeed, and can be repeated after a failed allocation.
+//! Tests of `ra_any_reads`: calls succeed, and can be repeated after a failed allocation.
 ghost use Rattle.std.specs.Prelude.{◌≡◌, IsTrue, None};
 ghost use Rattle.ra_any_reads.specs.Firsts.{first_in};
 
-use crate::{AnyReads, First};
+use ra_any_reads::{AnyReads, First};
 use ra_labels::NoMemory;
 use std::process::Abort;
 use std::test::Fail;
