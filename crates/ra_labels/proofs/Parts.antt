@@ -66,6 +66,10 @@ some_act (op.List (list.Insert insertion)) = (_, (0, omega arith, refl))
 some_act (op.List (list.Remove x)) = (_, (0, omega arith, refl))
 some_act (op.List (list.Read elements)) = (_, (0, omega arith, refl))
 some_act (op.List (list.Part elements)) = (_, (0, omega arith, refl))
+some_act op.AnyUpdate = (_, (0, omega arith, refl))
+some_act (op.AnyRead value) = (_, (0, omega arith, refl))
+some_act (op.MvWrite value) = (_, (0, omega arith, refl))
+some_act (op.MvRead values) = (_, (0, omega arith, refl))
 
 pub some_part : (label : Label) → (part : Part) × Contains (parts_of label) part
 some_part label =

@@ -51,6 +51,10 @@ kind_of (After anchor x) = Rga
 kind_of (RgaRemove x) = Rga
 kind_of (RgaRead list) = Rga
 kind_of (op.List operation) = kinds.List
+kind_of op.AnyUpdate = kinds.Any
+kind_of (op.AnyRead value) = kinds.Any
+kind_of (op.MvWrite value) = kinds.MvRegister
+kind_of (op.MvRead values) = kinds.MvRegister
 
 abbrev pub is_kind : Kind → Kind → Bool
 is_kind Counter Counter = true
@@ -59,13 +63,16 @@ is_kind LwwSet LwwSet = true
 is_kind OrSet OrSet = true
 is_kind Rga Rga = true
 is_kind kinds.List kinds.List = true
+is_kind kinds.Any kinds.Any = true
+is_kind kinds.MvRegister kinds.MvRegister = true
 is_kind _ _ = false
 
--- `true` unless the operation returned a set's elements or identifiers in a list that is not strictly increasing
+-- `true` unless the operation returned elements, identifiers or values in a list that is not strictly increasing
 abbrev pub has_rising_list : Op → Bool
 has_rising_list (LwwRead list) = rises list
 has_rising_list (OrRemove x ids) = rises ids
 has_rising_list (OrRead list) = rises list
+has_rising_list (op.MvRead values) = rises values
 has_rising_list _ = true
 
 -- `true` if an operation of this form carries a stamp
@@ -85,6 +92,10 @@ carries_stamp (After anchor x) = true
 carries_stamp (RgaRemove x) = false
 carries_stamp (RgaRead list) = false
 carries_stamp (op.List operation) = false
+carries_stamp op.AnyUpdate = false
+carries_stamp (op.AnyRead value) = false
+carries_stamp (op.MvWrite value) = false
+carries_stamp (op.MvRead values) = false
 
 -- `true` if a clock is given and is not 0
 abbrev pub has_clock : Option ℕ → Bool

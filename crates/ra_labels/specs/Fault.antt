@@ -7,7 +7,7 @@ use Rattle.ra_labels.specs.declared.reply.Cause.{Cause}
 use Rattle.ra_labels.specs.declared.reply.Cause.TheVariants.{Order, Update, Query}
 use Rattle.ra_labels.specs.declared.reply.Fault.{Fault}
 use Rattle.ra_labels.specs.Records.{Records, label_count}
-use Rattle.ra_labels.specs.ListHistory.{keeps_an_order}
+use Rattle.ra_labels.specs.Explained.{is_explained, unexplained_cause}
 use Rattle.ra_labels.specs.Linearization.{IsRaLinearization, extends_visibility, updates_admitted, queries_admitted}
 use Rattle.ra_labels.specs.NamedOrder.{named_sequence}
 
@@ -24,10 +24,11 @@ sequence_cause kind records =
     else if not (queries_admitted kind records sequence) then Some Query
     else None
 
--- the first condition that the named sequence fails; else the order if no order of the elements explains a list
+-- the first condition that the named sequence fails; else that of the kind if the records do not meet it
 abbrev pub cause_of : Kind → Records → Option Cause
 cause_of kind records =
-    option_or (sequence_cause kind records) (if keeps_an_order kind records then None else Some Order)
+    option_or (sequence_cause kind records)
+    (if is_explained kind records then None else Some (unexplained_cause kind))
 
 abbrev pub fault_at : ℕ → Cause → Fault
 fault_at n why = record { label = n; cause = why }

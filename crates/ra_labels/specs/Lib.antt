@@ -9,7 +9,9 @@ pub mod Specification
 pub mod Records
 pub mod ListHistory
 pub mod Visibility
+pub mod Agreement
 pub mod Siblings
+pub mod Explained
 pub mod Places
 pub mod Rewriting
 pub mod Linearization
@@ -22,4 +24,3 @@ pub mod Insertion
 pub mod Commuting
 pub mod Late
 pub mod Pending
-pub mod Agreement

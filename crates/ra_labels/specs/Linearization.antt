@@ -6,7 +6,7 @@ use Rattle.ra_labels.specs.declared.kind.Kind.{Kind}
 use Rattle.ra_labels.specs.declared.operation.Update.{Update}
 use Rattle.ra_labels.specs.Specification.{is_admitted, is_answered_after}
 use Rattle.ra_labels.specs.Records.{Records, labels_of}
-use Rattle.ra_labels.specs.ListHistory.{keeps_an_order}
+use Rattle.ra_labels.specs.Explained.{is_explained}
 use Rattle.ra_labels.specs.Visibility.{sees}
 use Rattle.ra_labels.specs.Rewriting.{Half, QueryHalf, UpdateHalf, Part, parts_of, update_of, query_of, updates_of}
 
@@ -61,14 +61,14 @@ abbrev pub queries_admitted : Kind → Records → List Part → Bool
 queries_admitted kind records sequence = list_all (is_query_admitted kind records sequence) sequence
 
 -- Holds if the sequence is an RA-linearization of the rewritten history for the order `precedes`: it has each part once
--- and nothing else, and meets the three conditions; and an order of the elements of a list explains it.
+-- and nothing else, and meets the three conditions; and the records meet the condition of their kind.
 pub record IsRaLinearizationBy (precedes : Part → Part → Bool) (kind : Kind) (records : Records)
     (sequence : List Part) : Type 0 where
   pub each_part_once : IsPermutation (parts_in records) sequence
   pub visibility : IsTrue (extends precedes sequence)
   pub updates : IsTrue (updates_admitted kind sequence)
   pub queries : IsTrue (queries_admitted kind records sequence)
-  pub order : IsTrue (keeps_an_order kind records)
+  pub explained : IsTrue (is_explained kind records)
 
 -- holds if the sequence is an RA-linearization of the rewritten history
 abbrev pub IsRaLinearization : Kind → Records → List Part → Type 0

@@ -1,7 +1,5 @@
 -- What the labels of a history of a list require of an order of its elements.
-use Rattle.std.specs.Prelude.{ℕ, Bool, true, List, [], ◌∷◌, ◌++◌, is_some}
-use Rattle.ra_labels.specs.declared.kind.Kind.{Kind}
-use Rattle.ra_labels.specs.declared.kind.Kind.TheVariants as kinds
+use Rattle.std.specs.Prelude.{ℕ, Bool, List, [], ◌∷◌, ◌++◌, is_some}
 use Rattle.ra_labels.specs.declared.edge.Edge.{Edge}
 use Rattle.ra_labels.specs.declared.operation.Op.{Op}
 use Rattle.ra_labels.specs.declared.operation.Op.TheVariants as op
@@ -33,7 +31,6 @@ required_edges [] = []
 required_edges (Operate by op clock ∷ before) = required_edges before ++ edges_required_by (label_count before) op
 required_edges (_ ∷ before) = required_edges before
 
--- `true` unless the kind is a list and no order of the inserted elements extends the required edges
-abbrev pub keeps_an_order : Kind → Records → Bool
-keeps_an_order kinds.List records = is_some (list_order_of (inserted_elements records) (required_edges records))
-keeps_an_order _ records = true
+-- `true` if some order of the inserted elements extends the required edges
+abbrev pub keeps_an_order : Records → Bool
+keeps_an_order records = is_some (list_order_of (inserted_elements records) (required_edges records))

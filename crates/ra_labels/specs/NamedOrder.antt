@@ -43,6 +43,8 @@ rank_of LwwSet records label = timestamp_of records label
 rank_of OrSet records label = lowest_rank
 rank_of Rga records label = timestamp_of records label
 rank_of kinds.List records label = lowest_rank
+rank_of kinds.Any records label = lowest_rank
+rank_of kinds.MvRegister records label = lowest_rank
 
 -- the order of labels: by rank, then by number
 abbrev pub label_cmp : Kind → Records → Label → Label → Ordering

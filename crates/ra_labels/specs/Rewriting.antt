@@ -53,6 +53,10 @@ acts_of (op.List (list.Remove x)) =
     (QueryHalf, Asks (queries.List (ask.Has x))) ∷ (UpdateHalf, Does (updates.List (change.Hide x))) ∷ []
 acts_of (op.List (list.Read elements)) = (Whole, Asks (queries.List (ask.Read elements))) ∷ []
 acts_of (op.List (list.Part elements)) = (Whole, Asks (queries.List (ask.Part elements))) ∷ []
+acts_of op.AnyUpdate = (Whole, Does updates.AnyUpdate) ∷ []
+acts_of (op.AnyRead value) = (Whole, Asks (queries.AnyRead value)) ∷ []
+acts_of (op.MvWrite value) = (Whole, Does (updates.MvWrite value)) ∷ []
+acts_of (op.MvRead values) = (Whole, Asks (queries.MvRead values)) ∷ []
 
 abbrev pub part_of : Label → Half × Act → Part
 part_of from act = record { label = from; half = act.0; act = act.1 }

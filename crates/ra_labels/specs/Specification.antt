@@ -1,6 +1,6 @@
 -- The sequential specification of each kind: an initial state, a partial step for each update, and a test of the answer
 -- of each query.
-use Rattle.std.specs.Prelude.{ℕ, ℤ, pos, ◌+ℤ◌, ◌-ℤ◌, ◌==◌, nat_eq, Bool, false, not, ◌&&◌, List, [], ◌∷◌, Option, Some, None, filter, option_map, option_and_then, fold, is_some, if◌then◌else◌}
+use Rattle.std.specs.Prelude.{ℕ, ℤ, pos, ◌+ℤ◌, ◌-ℤ◌, ◌==◌, nat_eq, Bool, true, false, not, ◌&&◌, List, [], ◌∷◌, Option, Some, None, filter, option_map, option_and_then, fold, is_some, if◌then◌else◌}
 use Rattle.std.specs.Option.{option_map_or, option_eq}
 use Rattle.std.specs.Ordering.{int_eq, nat_cmp}
 use Rattle.std.specs.Cmp.Lexicographic.{pointwise}
@@ -31,6 +31,10 @@ pub data State : Type 0 where
   Listed : List (ℕ × Bool) → State
   -- of a list, its elements without their order
   Listing : ListState → State
+  -- of an object of any type, nothing: its reads are judged by what they see
+  OfAny : State
+  -- of a multi-value register, nothing: its reads are judged by the siblings
+  OfMvRegister : State
 
 -- the initial state, before any update
 abbrev pub initial_state : Kind → State
@@ -40,6 +44,8 @@ initial_state LwwSet = Members []
 initial_state OrSet = Pairs []
 initial_state Rga = Listed ((0, false) ∷ [])
 initial_state kinds.List = Listing empty_list
+initial_state kinds.Any = OfAny
+initial_state kinds.MvRegister = OfMvRegister
 
 -- the state after the update; none if the state does not admit it
 abbrev pub step_of : State → Update → Option State
@@ -55,6 +61,8 @@ step_of (Listed list) (After anchor x) =
 step_of (Listed list) (RgaRemove x) =
     if is_in_list x list && not (x == 0) then Some (Listed (hide x list)) else None
 step_of (Listing list) (updates.List change) = option_map Listing (list_step list change)
+step_of OfAny updates.AnyUpdate = Some OfAny
+step_of OfMvRegister (updates.MvWrite value) = Some OfMvRegister
 step_of _ _ = None
 
 -- `true` if the query's answer is right in the state
@@ -66,6 +74,8 @@ answers (Pairs pairs) (ReadIds x ids) = have_same_elements ids (identifiers_of x
 answers (Pairs pairs) (OrRead list) = have_same_elements list (elements_of pairs)
 answers (Listed entries) (RgaRead list) = pointwise nat_eq list (shown entries)
 answers (Listing list) (queries.List question) = list_answers list question
+answers OfAny (queries.AnyRead value) = true
+answers OfMvRegister (queries.MvRead values) = true
 answers _ _ = false
 
 -- the state after the updates, applied in this order; none if one of them is not admitted

@@ -20,7 +20,7 @@ use Rattle.ra_labels.specs.declared.reply.Fault.{Fault}
 use Rattle.ra_labels.specs.declared.reply.Reply.{Reply}
 use Rattle.ra_labels.specs.declared.reply.Reply.TheVariants as reply
 use Rattle.ra_labels.specs.Lists.{is_among}
-use Rattle.ra_labels.specs.Specification.{State, Number, Written, Members, Pairs, Listed, Listing, answers, state_after}
+use Rattle.ra_labels.specs.Specification.{State, Number, Written, Members, Pairs, Listed, Listing, OfAny, OfMvRegister, answers, state_after}
 use Rattle.ra_labels.specs.Records.{Records, label_count, labels_of, replica_count, stamp_at, records_to}
 use Rattle.ra_labels.specs.Visibility.{is_update, is_update_at, has_delivered, sees}
 use Rattle.ra_labels.specs.Places.{issuer_of, updates_issued, issue_position}
@@ -38,6 +38,8 @@ kind_of_state (Members xs) = LwwSet
 kind_of_state (Pairs pairs) = OrSet
 kind_of_state (Listed list) = Rga
 kind_of_state (Listing list) = kinds.List
+kind_of_state OfAny = kinds.Any
+kind_of_state OfMvRegister = kinds.MvRegister
 
 abbrev pub kind_of_update : Update → Kind
 kind_of_update Inc = Counter
@@ -50,6 +52,8 @@ kind_of_update (TakeOut x ids) = OrSet
 kind_of_update (After anchor x) = Rga
 kind_of_update (RgaRemove x) = Rga
 kind_of_update (updates.List change) = kinds.List
+kind_of_update updates.AnyUpdate = kinds.Any
+kind_of_update (updates.MvWrite value) = kinds.MvRegister
 
 abbrev pub kind_of_query : Query → Kind
 kind_of_query (Count v) = Counter
@@ -59,6 +63,8 @@ kind_of_query (ReadIds x ids) = OrSet
 kind_of_query (OrRead list) = OrSet
 kind_of_query (RgaRead list) = Rga
 kind_of_query (queries.List question) = kinds.List
+kind_of_query (queries.AnyRead value) = kinds.Any
+kind_of_query (queries.MvRead values) = kinds.MvRegister
 
 abbrev pub kind_of_act : Act → Kind
 kind_of_act (Does update) = kind_of_update update
@@ -72,6 +78,8 @@ admits_all LwwSet = true
 admits_all OrSet = true
 admits_all Rga = false
 admits_all kinds.List = false
+admits_all kinds.Any = true
+admits_all kinds.MvRegister = true
 
 -- `true` if the update adds the element to an LWW set or removes it
 abbrev pub acts_on : ℕ → Update → Bool

@@ -26,6 +26,10 @@ is_update (After anchor x) = true
 is_update (RgaRemove x) = true
 is_update (RgaRead list) = false
 is_update (op.List operation) = changes_list operation
+is_update op.AnyUpdate = true
+is_update (op.AnyRead value) = false
+is_update (op.MvWrite value) = true
+is_update (op.MvRead values) = false
 
 -- `true` if label n exists and is an update
 abbrev pub is_update_at : Records → ℕ → Bool

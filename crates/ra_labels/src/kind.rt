@@ -18,4 +18,10 @@ pub enum Kind {
     /// A list of any editor, which says of an insertion between which elements it is. One order of all elements, which
     /// nobody reports, has to explain all insertions and reads. Its named order is the execution order.
     List,
+    /// An object of any type, of whose updates nothing is said. Reads that see the same updates have to return the same
+    /// value. Its named order is the execution order.
+    Any,
+    /// A multi-value register: a read returns the values of all writes that it sees and that no other one of these
+    /// replaced. Its named order is the execution order.
+    MvRegister,
 }

@@ -53,6 +53,14 @@ pub enum Op {
     RgaRead(Elements),
     /// List: an operation of it.
     List(ListOp),
+    /// Any type: an update, of which nothing is said.
+    AnyUpdate,
+    /// Any type: a read. The number represents the value that it returned: equal values have the same one.
+    AnyRead(u32),
+    /// Multi-value register: a write of this value, which replaces the values that its replica shows.
+    MvWrite(u32),
+    /// Multi-value register: a read that returned these values, each once.
+    MvRead(Elements),
 }
 
 impl Op {
@@ -67,7 +75,9 @@ impl Op {
             Op::LwwAdd(_) | Op::LwwRemove(_) => true,
             Op::OrAdd { .. } | Op::OrRemove { .. } => true,
             Op::After { .. } | Op::RgaRemove(_) => true,
+            Op::AnyUpdate | Op::MvWrite(_) => true,
             Op::Count(_) | Op::Last(_) | Op::LwwRead(_) | Op::OrRead(_) | Op::RgaRead(_) => false,
+            Op::AnyRead(_) | Op::MvRead(_) => false,
             Op::List(op) => op.is_update(),
         }
     }
@@ -111,6 +121,10 @@ pub enum Update {
     RgaRemove(u32),
     /// List: an insertion or a removal.
     List(ListUpdate),
+    /// Any type: an update.
+    AnyUpdate,
+    /// Multi-value register: a write of this value.
+    MvWrite(u32),
 }
 
 /// The query part of an operation: what it asks of the state of the sequential specification, with its answer.
@@ -135,4 +149,8 @@ pub enum Query {
     RgaRead(Elements),
     /// List: a test for elements, or a read.
     List(ListQuery),
+    /// Any type: the number of the value.
+    AnyRead(u32),
+    /// Multi-value register: the values.
+    MvRead(Elements),
 }

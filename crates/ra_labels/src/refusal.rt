@@ -83,6 +83,8 @@ fn kind_of(op: &Op) -> Kind
         Op::OrAdd { .. } | Op::OrRemove { .. } | Op::OrRead(_) => Kind::OrSet,
         Op::After { .. } | Op::RgaRemove(_) | Op::RgaRead(_) => Kind::Rga,
         Op::List(_) => Kind::List,
+        Op::AnyUpdate | Op::AnyRead(_) => Kind::Any,
+        Op::MvWrite(_) | Op::MvRead(_) => Kind::MvRegister,
     }
 }
 
@@ -90,7 +92,7 @@ fn has_rising_list(op: &Op) -> bool
     ensures { result ≡ has_rising_list op.now }
 {
     match op {
-        Op::LwwRead(list) | Op::OrRead(list) => rises(list.as_slice()),
+        Op::LwwRead(list) | Op::OrRead(list) | Op::MvRead(list) => rises(list.as_slice()),
         Op::OrRemove { ids, .. } => rises(ids.as_slice()),
         _ => true,
     }
@@ -117,6 +119,10 @@ fn carries_stamp(op: &Op) -> bool
         | Op::OrRead(_)
         | Op::RgaRemove(_)
         | Op::RgaRead(_)
-        | Op::List(_) => false,
+        | Op::List(_)
+        | Op::AnyUpdate
+        | Op::AnyRead(_)
+        | Op::MvWrite(_)
+        | Op::MvRead(_) => false,
     }
 }
