@@ -13,4 +13,5 @@ takes_memory (OrRead list) = true
 takes_memory (RgaRead list) = true
 takes_memory (operations.List (Read list)) = true
 takes_memory (operations.List (Part list)) = true
+takes_memory (operations.MvRead values) = true
 takes_memory _ = false

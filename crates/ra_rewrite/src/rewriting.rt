@@ -66,6 +66,10 @@ pub fn parts_of(op: &Op) -> Result<Parts, NoMemory>
         Op::RgaRemove(element) => Part::Update(Update::RgaRemove(*element)),
         Op::RgaRead(answer) => Part::Query(Query::RgaRead(answer.clone()?)),
         Op::List(op) => return list_parts(op),
+        Op::AnyUpdate => Part::Update(Update::AnyUpdate),
+        Op::AnyRead(value) => Part::Query(Query::AnyRead(*value)),
+        Op::MvWrite(value) => Part::Update(Update::MvWrite(*value)),
+        Op::MvRead(values) => Part::Query(Query::MvRead(values.clone()?)),
     };
     Ok(Parts::One(part))
 }

@@ -98,8 +98,7 @@ module _ {all : ElementList} {edits : List (Option Edit)} {records : Records} {m
             let other_stamp : ¬ (stamp ≡ t) = λ same. not_above (subst (IsStampBelow greatest) same above) in
             let less = between_anchor_and_element_later records l m anchor x b entry.0 before between
             behind is_shown was_shown all_led l_in l_makes m_in m_makes y_found in
-            let cmp = stamped_labels_sorted Rga records l m stamp t (λ e. absurd (cc (e)))
-            (λ e. absurd (cc (e))) (λ e. absurd (cc (e))) l_stamp m_stamp other_stamp in
+            let cmp = stamped_labels_sorted Rga records l m stamp t (inr (inr refl)) l_stamp m_stamp other_stamp in
             not_above (below_below greatest stamp t above ((stamp_order_lexicographic-less stamp t).0
             (sym cmp ∙ less)))
       ]) in (

@@ -8,7 +8,8 @@ use Rattle.ra_labels.specs.Specification.{State, Number, Written, Members, Pairs
 use Rattle.ra_seqspec.specs.Pairs.{distinct_elements}
 use Rattle.ra_seqspec.specs.ListElements.{answered_list}
 
--- the query with the state's answer in place of its own; none if it is of another kind, or if no answer is right
+-- the query with the state's answer in place of its own; none if it is of another kind, if no answer is right, or if
+-- each is, as in the one state of an object of any type or of a multi-value register
 abbrev pub answered_in : State → Query → Option Query
 answered_in (Number n) (Count v) = Some (Count n)
 answered_in (Written last) (Last value) = Some (Last last)

@@ -2,7 +2,7 @@
 use Rattle.std.specs.Ordering.{nat_cmp}
 use Rattle.std.specs.BTreeSet.{IsOrdered}
 use Rattle.ra_labels.specs.Lists.{pair_cmp}
-use Rattle.ra_labels.specs.Specification.{State, Number, Written, Members, Pairs, Listed, Listing}
+use Rattle.ra_labels.specs.Specification.{State, Number, Written, Members, Pairs, Listed, Listing, OfAny, OfMvRegister}
 use Rattle.ra_seqspec.specs.declared.state.Form.{Form}
 use Rattle.ra_seqspec.specs.declared.state.Form.TheVariants.{Counter, Register, LwwSet, OrSet, Rga}
 use Rattle.ra_seqspec.specs.declared.state.Form.TheVariants as forms
@@ -14,6 +14,8 @@ state_of (LwwSet set) = Members set.keys
 state_of (OrSet set) = Pairs set.keys
 state_of (Rga list) = Listed list
 state_of (forms.List list) = Listing list
+state_of forms.Any = OfAny
+state_of forms.MvRegister = OfMvRegister
 
 -- holds if a set's elements, or its pairs, are strictly increasing
 abbrev pub StateKept : Form → Type 0
@@ -23,3 +25,5 @@ StateKept (LwwSet set) = IsOrdered nat_cmp set
 StateKept (OrSet set) = IsOrdered pair_cmp set
 StateKept (Rga list) = Unit {0}
 StateKept (forms.List list) = Unit {0}
+StateKept forms.Any = Unit {0}
+StateKept forms.MvRegister = Unit {0}

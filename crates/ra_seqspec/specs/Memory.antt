@@ -5,7 +5,7 @@ use Rattle.ra_labels.specs.declared.operation.Update.{Update}
 use Rattle.ra_labels.specs.declared.operation.Update.TheVariants.{LwwAdd, OrAdd, After}
 use Rattle.ra_labels.specs.declared.operation.Update.TheVariants as updates
 use Rattle.ra_labels.specs.Lists.{is_among}
-use Rattle.ra_labels.specs.Specification.{State, Number, Written, Members, Pairs, Listed, Listing}
+use Rattle.ra_labels.specs.Specification.{State, Number, Written, Members, Pairs, Listed, Listing, OfAny, OfMvRegister}
 use Rattle.ra_seqspec.specs.Rga.{may_insert}
 use Rattle.ra_seqspec.specs.ListElements.{changes_list}
 
@@ -17,6 +17,8 @@ takes_memory (Members xs) = true
 takes_memory (Pairs pairs) = true
 takes_memory (Listed list) = true
 takes_memory (Listing list) = true
+takes_memory OfAny = false
+takes_memory OfMvRegister = false
 
 -- `true` if the update needs an allocation in this state: a new element or pair, an insertion that an RGA or a list
 -- admits, or the first removal of a list's element

@@ -40,6 +40,10 @@ enum Form {
     Rga(RgaList),
     // The elements of a list.
     List(ListElements),
+    // Nothing, of an object of any type.
+    Any,
+    // Nothing, of a multi-value register.
+    MvRegister,
 }
 
 impl Model for State {
@@ -69,6 +73,8 @@ impl State {
             Kind::OrSet => Form::OrSet(BTreeSet::new(alloc)),
             Kind::Rga => Form::Rga(RgaList::new(alloc)),
             Kind::List => Form::List(ListElements::new(alloc)),
+            Kind::Any => Form::Any,
+            Kind::MvRegister => Form::MvRegister,
         };
         Ok(State { form })
     }
@@ -77,7 +83,7 @@ impl State {
     ///
     /// # Errors
     ///
-    /// `NoMemory` if allocation fails. The state of a counter or a register does not allocate.
+    /// `NoMemory` if allocation fails. Only a state that is a collection allocates.
     ///
     /// # Complexity
     ///
@@ -85,7 +91,7 @@ impl State {
     pub fn copy(&self) -> Result<State, NoMemory>
         // The copy represents the same state.
         ensures equal { IfOk result (λ copy. copy ≡ self.now) }
-        // The call succeeds for a counter and a register, whose states do not allocate.
+        // The call succeeds unless the state is a collection.
         ensures memory { takes_memory self.now ≡ false → IsOk result }
     {
         let form = match &self.form {
@@ -95,6 +101,8 @@ impl State {
             Form::OrSet(pairs) => Form::OrSet(pairs.clone()?),
             Form::Rga(list) => Form::Rga(list.copy()?),
             Form::List(list) => Form::List(list.copy()?),
+            Form::Any => Form::Any,
+            Form::MvRegister => Form::MvRegister,
         };
         Ok(State { form })
     }
@@ -111,6 +119,7 @@ impl State {
     ///
     /// O(1) for a counter or a register. O(log n) for a set or a list with `n` entries, for each identifier of an
     /// OR-Set's removal. A constant number of hash map operations for an RGA.
+    #[inline(always)]
     pub fn apply(&mut self, update: &Update) -> Result<bool, NoMemory>
         // The update keeps a counter's number between `-FARTHEST_COUNT` and `FARTHEST_COUNT`, if it is admitted.
         requires { IfSome (step_of self.old update.now) IsInRange }
@@ -143,6 +152,7 @@ impl State {
             }
             (Form::Rga(list), Update::RgaRemove(element)) => return Ok(list.hide(*element)),
             (Form::List(list), Update::List(change)) => return list.apply(change),
+            (Form::Any, Update::AnyUpdate) | (Form::MvRegister, Update::MvWrite(_)) => {}
             _ => return Ok(false),
         }
         Ok(true)
@@ -201,12 +211,14 @@ impl State {
             }
             (Form::Rga(list), Query::RgaRead(answer)) => list.shows(answer.as_slice()),
             (Form::List(list), Query::List(question)) => list.admits(question),
+            (Form::Any, Query::AnyRead(_)) | (Form::MvRegister, Query::MvRead(_)) => true,
             _ => false,
         }
     }
 
     /// Returns the query with the answer of this state instead of its own, or `None` if it belongs to another kind. The
-    /// new answer is right. If the query's own answer is right and any list that has to be strictly increasing is, the
+    /// new answer is right. A state of any type or of a multi-value register, whose reads are judged by what they see,
+    /// gives none. If the query's own answer is right and any list that has to be strictly increasing is, the
     /// result equals the query. The elements live in `alloc`.
     ///
     /// Several answers to a query of a list may be right. A wrong read becomes the shown elements in increasing order,
@@ -215,14 +227,15 @@ impl State {
     ///
     /// # Errors
     ///
-    /// `NoMemory` if allocation fails. A query of a counter or a register does not allocate.
+    /// `NoMemory` if allocation fails. Only the answer of a set or a list allocates.
     ///
     /// # Complexity
     ///
     /// As `admits`.
     pub fn answer(&self, alloc: Global, query: &Query) -> Result<Option<Query>, NoMemory>
-        // The result is the query with this state's answer, or `None` if the query belongs to another kind or is that
-        // of a list's update which names an element that is not in the list.
+        // The result is the query with this state's answer. It is `None` if the query belongs to another kind or is
+        // that of a list's update which names an element that is not in the list, and if the state has no answer of its
+        // own.
         ensures answer { IfOk result (λ answer. answer ≡ answered_in self.now query.now) }
         // The answer in the result is right in this state.
         ensures right { IfOk result (λ answer. IfSome answer (λ it. answers self.now it ≡ true)) }
@@ -230,7 +243,7 @@ impl State {
         // query.
         ensures only { asks_rising query.now ≡ true → answers self.now query.now ≡ true
             → IfOk result (λ answer. IfSome answer (λ it. query.now ≡ it)) }
-        // The call succeeds for a counter and a register, whose answers do not allocate.
+        // The call succeeds unless the state is a collection.
         ensures memory { takes_memory self.now ≡ false → IsOk result }
     {
         let answer = match (&self.form, query) {

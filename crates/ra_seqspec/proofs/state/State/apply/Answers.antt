@@ -12,6 +12,8 @@ returns-clause-step c = elim c.match-self.branch [
   | in-Counter-Inc w ↦ search rules
   | in-Counter-Dec w ↦ search rules
   | in-Register-Write w ↦ search rules
+  | goal.in-Any-AnyUpdate w ↦ search rules
+  | goal.in-Any-AnyUpdate-2 w ↦ search rules
   | in-LwwSet-LwwAdd+in_ok-insert-in-LwwSet-LwwAdd w ↦ search rules
   | in-LwwSet-LwwRemove w ↦ search rules
   | in-OrSet-OrAdd+in_ok-insert-in-OrSet-OrAdd w ↦
