@@ -18,10 +18,6 @@ mod parts;
 mod search;
 mod sequence;
 mod sweep;
-#[cfg(test)]
-mod tests;
-#[cfg(test)]
-mod tests_of_costs;
 pub mod theorems;
 mod way;
 

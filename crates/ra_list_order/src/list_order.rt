@@ -204,14 +204,58 @@ impl ListOrder {
         self.add_by_sweep(alloc, edge)
     }
 
-    /// Returns the elements that move for a new edge that is against the order, or `None` if the edge closes a cycle.
-    pub(crate) fn plan(&self, alloc: Global, edge: Edge) -> Result<Option<Plan>, NoMemory> {
+    // Returns the elements that move for a new edge that is against the order, or `None` if the edge closes a cycle.
+    fn plan(&self, alloc: Global, edge: Edge) -> Result<Option<Plan>, NoMemory> {
         search(alloc, &self.order, &self.edges, edge)
     }
 
-    /// Returns the number of chunks of the order, for the tests of costs.
-    pub(crate) fn chunk_count(&self) -> usize {
+    /// Returns the number of steps of the two-way search for a new edge: the edges that it walks, and the elements that
+    /// move. Returns `None` if it finds no plan, so that `add` sweeps along the part of the order between the two ends.
+    /// No clause speaks of costs: tests read this number.
+    ///
+    /// # Errors
+    ///
+    /// `NoMemory` if allocation fails.
+    ///
+    /// # Complexity
+    ///
+    /// That of the search.
+    pub fn search_steps(
+        &self,
+        alloc: Global,
+        before: u32,
+        after: u32,
+    ) -> Result<Option<usize>, NoMemory> {
+        let edge = Edge {
+            before,
+            after,
+            label: 0,
+        };
+        match self.plan(alloc, edge)? {
+            Some(plan) => {
+                let moved = plan.ancestors.len().saturating_add(plan.descendants.len());
+                Ok(Some(plan.steps.saturating_add(moved)))
+            }
+            None => Ok(None),
+        }
+    }
+
+    /// Returns the number of chunks that have the elements.
+    pub fn chunk_count(&self) -> usize
+        // Without chunks there are no elements.
+        ensures { result ≡ 0 → self.now.order ≡ [] }
+    {
         self.order.chunk_count()
+    }
+
+    /// Returns the number of elements in the chunk of an element. An insertion next to it moves at most as many.
+    pub fn chunk_len(&self, element: u32) -> usize
+        // The element is in the order.
+        requires { Contains self.now.order element }
+        // The element is one of them.
+        ensures { 0 < result }
+    {
+        self.order.chunk_len(element)
     }
 
     // Adds an edge by a move of the elements that the two-way search finds. Returns `false`, and changes nothing, if

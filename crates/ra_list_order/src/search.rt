@@ -16,7 +16,7 @@ pub struct Plan {
     pub ancestors: Vec<u32>,
     /// Elements before the cut that are reachable from the end of the new edge.
     pub descendants: Vec<u32>,
-    /// The number of edges that were walked, for the tests of costs.
+    /// The number of edges that were walked.
     pub steps: usize,
 }
 

@@ -73,6 +73,14 @@ impl Sequence {
         self.chunks.len()
     }
 
+    /// Returns the number of elements in the chunk of an element.
+    pub fn chunk_len(&self, element: u32) -> usize
+        requires { Contains (joined self.now) element }
+        ensures { 0 < result }
+    {
+        self.chunks[self.place_of(element)].elements().len()
+    }
+
     /// Returns `true` if the element is in the sequence.
     ///
     /// # Complexity

@@ -291,6 +291,9 @@ impl ListWitness {
         ensures kept { IfOk result (λ found. MatchOption found
             ((view_at self.new.views replica).last ≡ listed.numbers.items)
             (λ cycle. self.new.views ≡ self.old.views)) }
+        // The last reads of the other replicas are unchanged, even after a failure.
+        ensures others { (other : ℕ) → ¬ (other ≡ replica)
+            → (view_at self.new.views other).last ≡ (view_at self.old.views other).last }
         // After a failed allocation the edges are unchanged.
         ensures failed { OnErr result (self.new.edges ≡ self.old.edges) }
         // After a failed allocation the views are unchanged.

@@ -63,7 +63,7 @@ invariant_of-self-in-Ok-None c =
     (sym (set-set views c.args.replica c.reserve.new.self c.insert.new.self))
     (subst (λ xs. ListWitnessKept xs (set views c.args.replica c.insert.new.self) new.order new.edges) (sym c.in_ok-add.ensures.added)
     (kept_by_insert inside.numbers views inside.order.order new.order inside.order.edges new.edges c.args.replica
-    c.args.insertion.element c.insert.new.self c.args.label _ c.self.invariant there few (is_shown c)
+    c.args.insertion.element c.insert.new.self _ _ c.self.invariant there few (is_shown c)
     c.add_insertion.ensures.kept (subst (Contains new.order) placing.element c.in-Ok-None.ensures.there)
     (placed_few inside.numbers c.args.insertion placement placing) added.some))
 
