@@ -34,12 +34,13 @@ use Rattle.ra_labels.proofs.Members.{at_head, behind_head, split_at, there-kept,
 use Rattle.ra_labels.proofs.Parts.{part_is_of}
 use Rattle.ra_theorems.specs.Counters.{increments_in, decrements_in}
 use Rattle.ra_theorems.specs.AnyOrder.{is_of_any_order, updates_that_pass, IsOrderOf, IsAddedAndNeverTakenOut, IsFinal}
+use Rattle.ra_theorems.proofs.StateKinds.{only_any, only_mv_register}
 use Rattle.ra_theorems.proofs.States.{admitted-only, admitted-of_kind, state-of_kind, counter_is}
 use Rattle.ra_theorems.proofs.OrSets.{pairs-exactly, answers-ids, answers-pairs, both_ways}
 use Rattle.ra_theorems.proofs.Meanings.{some-exactly, queries-exactly}
 use Rattle.ra_theorems.proofs.Faults.{IsPermutation-named_sequence, no_cause_from_holds, fault_is_least}
 use Rattle.ra_theorems.proofs.Extensions.{extends-weaker}
-use Rattle.ra_theorems.proofs.Ranks.{counter-extends, or_set-extends}
+use Rattle.ra_theorems.proofs.Ranks.{counter-extends, or_set-extends, execution-extends}
 use Rattle.ra_theorems.proofs.CountedParts.{ups_of, downs_of, ups_sum, downs_sum, sum_same}
 use Rattle.ra_theorems.proofs.AmongParts.{AreAmong, updates_among, shuffled_among, seen_by, extends-filter, Linearizes, named_in, in_named, visible_among, seen_must_precede}
 use Rattle.ra_theorems.proofs.ListsInAnyOrder.{named_list_linearizes}
@@ -244,7 +245,7 @@ named_linearizes kind records sequence all linearizes extended so =
           all (visible_among records named sequence n among) (ap is_some led) in
           let (other, led_other) = (some-exactly (state_after kind (visible_updates records named n))).0 admitted in
           (other, led_other, so n query state led answered other led_other));
-      order = linearizes.order;
+      explained = linearizes.explained;
     }
 
 -- a counter's number is the same in both orders
@@ -324,6 +325,22 @@ or_set_so records sequence once linearizes n query state led answered other led_
     subst (λ s. answers s query ≡ true) (sym other_is)
     (answers_alike ps qs same query (subst (λ s. answers s query ≡ true) is answered))
 
+-- an object of any type has one state, and so has a multi-value register
+any_so : (records : Records) (sequence : List Part) → AnswersSo kinds.Any records sequence
+any_so records sequence n query state led answered other led_other =
+    subst (λ s. answers s query ≡ true)
+    (only_any state (state-of_kind kinds.Any (visible_updates records sequence n) state led)
+    ∙ sym (only_any other
+    (state-of_kind kinds.Any (visible_updates records (named_sequence kinds.Any records) n) other led_other))) answered
+
+mv_register_so : (records : Records) (sequence : List Part) → AnswersSo kinds.MvRegister records sequence
+mv_register_so records sequence n query state led answered other led_other =
+    subst (λ s. answers s query ≡ true)
+    (only_mv_register state (state-of_kind kinds.MvRegister (visible_updates records sequence n) state led)
+    ∙ sym (only_mv_register other
+    (state-of_kind kinds.MvRegister (visible_updates records (named_sequence kinds.MvRegister records) n) other
+    led_other))) answered
+
 pub named-where_any : (kind : Kind) (records : Records) (sequence : List Part) → is_of_any_order kind ≡ true
     → IdentifiersAreUnique records → Linearizes kind records sequence → Holds kind records
 named-where_any Counter records sequence any once linearizes =
@@ -333,6 +350,12 @@ named-where_any OrSet records sequence any once linearizes =
     named_linearizes OrSet records sequence refl linearizes (or_set-extends records)
     (or_set_so records sequence once linearizes)
 named-where_any kinds.List records sequence any once linearizes = named_list_linearizes records sequence linearizes
+named-where_any kinds.Any records sequence any once linearizes =
+    named_linearizes kinds.Any records sequence refl linearizes (execution-extends kinds.Any records (λ label. refl))
+    (any_so records sequence)
+named-where_any kinds.MvRegister records sequence any once linearizes =
+    named_linearizes kinds.MvRegister records sequence refl linearizes
+    (execution-extends kinds.MvRegister records (λ label. refl)) (mv_register_so records sequence)
 named-where_any _ records sequence any once linearizes = absurd (false≢true any)
 
 -- an RA-linearization also linearizes by visibility alone, which is the weaker order
@@ -344,7 +367,7 @@ by_visibility kind records sequence linearizes = record {
       linearizes.visibility;
   updates = linearizes.updates;
   queries = linearizes.queries;
-  order = linearizes.order;
+  explained = linearizes.explained;
 }
 
 -- ---- a violation is final

@@ -308,14 +308,16 @@ stamps_decide kind records l m s t l_rank m_rank l_has m_has other =
     (λ i. ordering_then (stamp_cmp (l_is i) (m_is i)) (nat_cmp l.number m.number))
     ∙ by_first (stamp_cmp s t) (nat_cmp l.number m.number) (λ tie. other ((stamp_same s t).0 tie))
 
-pub own-stamps : (kind : Kind) (records : Records) (l m : Label) (s t : Stamp) → ¬ (kind ≡ Counter) → ¬ (kind ≡ OrSet)
-    → ¬ (kind ≡ kinds.List) → l.stamp ≡ Some s → m.stamp ≡ Some t → ¬ (s ≡ t) → label_cmp kind records l m ≡ stamp_cmp s t
-own-stamps Counter records l m s t not_this nor_this nor_list l_has m_has other = absurd (not_this refl)
-own-stamps Register records l m s t not_this nor_this nor_list l_has m_has other =
+pub own-stamps : (kind : Kind) (records : Records) (l m : Label) (s t : Stamp)
+    → (kind ≡ Register) ⊎ (kind ≡ LwwSet) ⊎ (kind ≡ Rga) → l.stamp ≡ Some s → m.stamp ≡ Some t → ¬ (s ≡ t)
+    → label_cmp kind records l m ≡ stamp_cmp s t
+own-stamps Register records l m s t timed l_has m_has other =
     stamps_decide Register records l m s t refl refl l_has m_has other
-own-stamps LwwSet records l m s t not_this nor_this nor_list l_has m_has other =
+own-stamps LwwSet records l m s t timed l_has m_has other =
     stamps_decide LwwSet records l m s t refl refl l_has m_has other
-own-stamps OrSet records l m s t not_this nor_this nor_list l_has m_has other = absurd (nor_this refl)
-own-stamps kinds.List records l m s t not_this nor_this nor_list l_has m_has other = absurd (nor_list refl)
-own-stamps Rga records l m s t not_this nor_this nor_list l_has m_has other =
+own-stamps Rga records l m s t timed l_has m_has other =
     stamps_decide Rga records l m s t refl refl l_has m_has other
+own-stamps _ records l m s t timed l_has m_has other = elim timed [
+  | inl is ↦ absurd (cc is)
+  | inr others ↦ elim others [ inl is ↦ absurd (cc is) | inr is ↦ absurd (cc is) ]
+]

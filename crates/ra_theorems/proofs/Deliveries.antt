@@ -87,6 +87,8 @@ op_of (RgaRemove x) = op.RgaRemove x
 op_of (TakeOut x ids) = op.OrRemove x ids
 op_of (updates.List (change.Put insertion)) = op.List (list.Insert insertion)
 op_of (updates.List (change.Hide x)) = op.List (list.Remove x)
+op_of updates.AnyUpdate = op.AnyUpdate
+op_of (updates.MvWrite value) = op.MvWrite value
 
 its_act : (half : Half) (act : Act) (which : Half) (u : Update)
     → Contains {X = Half × Act} ((half, act) ∷ []) (which, Does u) → act ≡ Does u
@@ -119,6 +121,8 @@ made_by (op.OrRead list) u (half, there) = absurd (no_update _ _ half u there)
 made_by (op.RgaRead list) u (half, there) = absurd (no_update _ _ half u there)
 made_by (op.List (list.Read elements)) u (half, there) = absurd (no_update _ _ half u there)
 made_by (op.List (list.Part elements)) u (half, there) = absurd (no_update _ _ half u there)
+made_by (op.AnyRead value) u (half, there) = absurd (no_update _ _ half u there)
+made_by (op.MvRead values) u (half, there) = absurd (no_update _ _ half u there)
 made_by (op.OrRemove x ids) u (half, there) = ap op_of (second_update _ _ half u there)
 made_by (op.List (list.Insert insertion)) u (half, there) = ap op_of (second_update _ _ half u there)
 made_by (op.List (list.Remove x)) u (half, there) = ap op_of (second_update _ _ half u there)

@@ -148,7 +148,7 @@ linearization_by-weaker precedes weaker implies kind records sequence linearizes
   visibility = extends-weaker precedes weaker implies sequence linearizes.visibility;
   updates = linearizes.updates;
   queries = linearizes.queries;
-  order = linearizes.order;
+  explained = linearizes.explained;
 }
 
 -- an operation is an update exactly if one of its parts is

@@ -13,7 +13,7 @@ use Rattle.ra_labels.specs.declared.reply.Cause.{Cause}
 use Rattle.ra_labels.specs.declared.reply.Cause.TheVariants.{Order, Update, Query}
 use Rattle.ra_labels.specs.declared.reply.Fault.{Fault}
 use Rattle.ra_labels.specs.Records.{Records, label_count, labels_of, records_to}
-use Rattle.ra_labels.specs.ListHistory.{keeps_an_order}
+use Rattle.ra_labels.specs.Explained.{is_explained, unexplained_cause}
 use Rattle.ra_labels.specs.Rewriting.{Part, parts_of}
 use Rattle.ra_labels.specs.Linearization.{parts_in, extends_visibility, updates_admitted, queries_admitted}
 use Rattle.ra_labels.specs.NamedOrder.{label_cmp, named_sequence}
@@ -27,78 +27,95 @@ pub IsPermutation-named_sequence : (kind : Kind) (records : Records)
     → IsPermutation (parts_in records) (named_sequence kind records)
 IsPermutation-named_sequence kind records = flat_map-sort_by (label_cmp kind records) parts_of (labels_of records)
 
-abbrev first_failing : Bool → Bool → Bool → Bool → Option Cause
-first_failing order update query kept =
+abbrev first_failing : Cause → Bool → Bool → Bool → Bool → Option Cause
+first_failing last order update query kept =
     option_or
     (if not order then Some Order else if not update then Some Update else if not query then Some Query else None)
-    (if kept then None else Some Order)
+    (if kept then None else Some last)
 
 -- if there is no cause, all four tests pass
-all_pass : (order update query kept : Bool) → first_failing order update query kept ≡ None
+all_pass : (last : Cause) (order update query kept : Bool) → first_failing last order update query kept ≡ None
     → (order ≡ true) × (update ≡ true) × (query ≡ true) × (kept ≡ true)
-all_pass true true true true none = (refl, refl, refl, refl)
-all_pass false update query kept none = absurd (none-some Order (sym none))
-all_pass true false query kept none = absurd (none-some Update (sym none))
-all_pass true true false kept none = absurd (none-some Query (sym none))
-all_pass true true true false none = absurd (none-some Order (sym none))
+all_pass last true true true true none = (refl, refl, refl, refl)
+all_pass last false update query kept none = absurd (none-some Order (sym none))
+all_pass last true false query kept none = absurd (none-some Update (sym none))
+all_pass last true true false kept none = absurd (none-some Query (sym none))
+all_pass last true true true false none = absurd (none-some last (sym none))
 
-no_failure : (order update query kept : Bool) → order ≡ true → update ≡ true → query ≡ true → kept ≡ true
-    → first_failing order update query kept ≡ None
-no_failure order update query kept o u q k = rw (o, u, q, k)
+no_failure : (last : Cause) (order update query kept : Bool) → order ≡ true → update ≡ true → query ≡ true → kept ≡ true
+    → first_failing last order update query kept ≡ None
+no_failure last order update query kept o u q k = rw (o, u, q, k)
 
 pub holds_from_no_cause : (kind : Kind) (records : Records) → cause_of kind records ≡ None → Holds kind records
 holds_from_no_cause kind records none =
     let sequence = named_sequence kind records in
-    let tests = all_pass (extends_visibility records sequence) (updates_admitted kind sequence)
-    (queries_admitted kind records sequence) (keeps_an_order kind records) none in
+    let tests = all_pass (unexplained_cause kind) (extends_visibility records sequence) (updates_admitted kind sequence)
+    (queries_admitted kind records sequence) (is_explained kind records) none in
     record {
       each_part_once = IsPermutation-named_sequence kind records;
       visibility = tests.0;
       updates = tests.1;
       queries = tests.2;
-      order = tests.3;
+      explained = tests.3;
     }
 
 pub no_cause_from_holds : (kind : Kind) (records : Records) → Holds kind records → cause_of kind records ≡ None
 no_cause_from_holds kind records holds =
     let sequence = named_sequence kind records in
-    no_failure (extends_visibility records sequence) (updates_admitted kind sequence)
-    (queries_admitted kind records sequence) (keeps_an_order kind records) holds.visibility holds.updates holds.queries
-    holds.order
+    no_failure (unexplained_cause kind) (extends_visibility records sequence) (updates_admitted kind sequence)
+    (queries_admitted kind records sequence) (is_explained kind records) holds.visibility holds.updates holds.queries
+    holds.explained
 
 -- the cause is the first of the four tests that fails
-first_or_last : (order update query kept : Bool) → (first_failing order update query kept ≡ Some Order)
-    ↔ ((order ≡ false) ⊎ ((order ≡ true) × (update ≡ true) × (query ≡ true) × (kept ≡ false)))
-first_or_last false update query kept = (λ is. inl refl, λ fails. refl)
-first_or_last true false query kept = (
+first_or_last : (last : Cause) (order update query kept : Bool) → (first_failing last order update query kept ≡ Some Order)
+    ↔ ((order ≡ false)
+    ⊎ ((order ≡ true) × (update ≡ true) × (query ≡ true) × (kept ≡ false) × (last ≡ Order)))
+first_or_last last false update query kept = (λ is. inl refl, λ fails. refl)
+first_or_last last true false query kept = (
   (λ is. absurd (cc is)),
-  (λ fails. elim fails [ inl first ↦ absurd (cc first) | inr last ↦ absurd (cc (last.1)) ]),
+  (λ fails. elim fails [ inl first ↦ absurd (cc first) | inr later ↦ absurd (cc (later.1)) ]),
 )
-first_or_last true true false kept = (
+first_or_last last true true false kept = (
   (λ is. absurd (cc is)),
-  (λ fails. elim fails [ inl first ↦ absurd (cc first) | inr last ↦ absurd (cc (last.2)) ]),
+  (λ fails. elim fails [ inl first ↦ absurd (cc first) | inr later ↦ absurd (cc (later.2)) ]),
 )
-first_or_last true true true false = (λ is. inr (refl, refl, refl, refl), λ fails. refl)
-first_or_last true true true true = (
+first_or_last last true true true false = (
+  (λ is. inr (refl, refl, refl, refl, same_Some last Order is)),
+  (λ fails. elim fails [ inl first ↦ absurd (cc first) | inr later ↦ ap Some (later.4) ]),
+)
+first_or_last last true true true true = (
   (λ is. absurd (cc is)),
-  (λ fails. elim fails [ inl first ↦ absurd (cc first) | inr last ↦ absurd (cc (last.3)) ]),
+  (λ fails. elim fails [ inl first ↦ absurd (cc first) | inr later ↦ absurd (cc (later.3)) ]),
 )
 
-update_next : (order update query kept : Bool) → (first_failing order update query kept ≡ Some Update)
-    ↔ ((order ≡ true) × (update ≡ false))
-update_next false update query kept = (λ is. absurd (cc is), λ fails. absurd (cc (fails.0)))
-update_next true false query kept = (λ is. (refl, refl), λ fails. refl)
-update_next true true false kept = (λ is. absurd (cc is), λ fails. absurd (cc (fails.1)))
-update_next true true true false = (λ is. absurd (cc is), λ fails. absurd (cc (fails.1)))
-update_next true true true true = (λ is. absurd (cc is), λ fails. absurd (cc (fails.1)))
+update_next : (last : Cause) (order update query kept : Bool) → ¬ (last ≡ Update)
+    → (first_failing last order update query kept ≡ Some Update) ↔ ((order ≡ true) × (update ≡ false))
+update_next last false update query kept other = (λ is. absurd (cc is), λ fails. absurd (cc (fails.0)))
+update_next last true false query kept other = (λ is. (refl, refl), λ fails. refl)
+update_next last true true false kept other = (λ is. absurd (cc is), λ fails. absurd (cc (fails.1)))
+update_next last true true true false other =
+    (λ is. absurd (other (same_Some last Update is)), λ fails. absurd (cc (fails.1)))
+update_next last true true true true other = (λ is. absurd (cc is), λ fails. absurd (cc (fails.1)))
 
-query_next : (order update query kept : Bool) → (first_failing order update query kept ≡ Some Query)
-    ↔ ((order ≡ true) × (update ≡ true) × (query ≡ false))
-query_next false update query kept = (λ is. absurd (cc is), λ fails. absurd (cc (fails.0)))
-query_next true false query kept = (λ is. absurd (cc is), λ fails. absurd (cc (fails.1)))
-query_next true true false kept = (λ is. (refl, refl, refl), λ fails. refl)
-query_next true true true false = (λ is. absurd (cc is), λ fails. absurd (cc (fails.2)))
-query_next true true true true = (λ is. absurd (cc is), λ fails. absurd (cc (fails.2)))
+query_or_last : (last : Cause) (order update query kept : Bool) → (first_failing last order update query kept ≡ Some Query)
+    ↔ ((order ≡ true) × (update ≡ true)
+    × ((query ≡ false) ⊎ ((query ≡ true) × (kept ≡ false) × (last ≡ Query))))
+query_or_last last false update query kept = (λ is. absurd (cc is), λ fails. absurd (cc (fails.0)))
+query_or_last last true false query kept = (λ is. absurd (cc is), λ fails. absurd (cc (fails.1)))
+query_or_last last true true false kept = (λ is. (refl, refl, inl refl), λ fails. refl)
+query_or_last last true true true false = (
+  (λ is. (refl, refl, inr (refl, refl, same_Some last Query is))),
+  (λ fails. elim (fails.2) [ inl first ↦ absurd (cc first) | inr later ↦ ap Some (later.2) ]),
+)
+query_or_last last true true true true = (
+  (λ is. absurd (cc is)),
+  (λ fails. elim (fails.2) [ inl first ↦ absurd (cc first) | inr later ↦ absurd (cc (later.1)) ]),
+)
+
+-- records that do not meet the condition of their kind fail the order or a query
+not_update : (kind : Kind) → ¬ (unexplained_cause kind ≡ Update)
+not_update kinds.List is = absurd (cc is)
+not_update _ is = absurd (cc is)
 
 module _ (kind : Kind) (records : Records) where
   abbrev sequence : List Part
@@ -107,20 +124,24 @@ module _ (kind : Kind) (records : Records) where
   pub cause-order : (cause_of kind records ≡ Some Order)
       ↔ ((extends_visibility records sequence ≡ false)
       ⊎ ((extends_visibility records sequence ≡ true) × (updates_admitted kind sequence ≡ true)
-      × (queries_admitted kind records sequence ≡ true) × (keeps_an_order kind records ≡ false)))
-  cause-order = first_or_last (extends_visibility records sequence) (updates_admitted kind sequence)
-      (queries_admitted kind records sequence) (keeps_an_order kind records)
+      × (queries_admitted kind records sequence ≡ true) × (is_explained kind records ≡ false)
+      × (unexplained_cause kind ≡ Order)))
+  cause-order = first_or_last (unexplained_cause kind) (extends_visibility records sequence)
+      (updates_admitted kind sequence) (queries_admitted kind records sequence) (is_explained kind records)
 
   pub cause-update : (cause_of kind records ≡ Some Update)
       ↔ ((extends_visibility records sequence ≡ true) × (updates_admitted kind sequence ≡ false))
-  cause-update = update_next (extends_visibility records sequence) (updates_admitted kind sequence)
-      (queries_admitted kind records sequence) (keeps_an_order kind records)
+  cause-update = update_next (unexplained_cause kind) (extends_visibility records sequence)
+      (updates_admitted kind sequence) (queries_admitted kind records sequence) (is_explained kind records)
+      (not_update kind)
 
   pub cause-query : (cause_of kind records ≡ Some Query)
       ↔ ((extends_visibility records sequence ≡ true) × (updates_admitted kind sequence ≡ true)
-      × (queries_admitted kind records sequence ≡ false))
-  cause-query = query_next (extends_visibility records sequence) (updates_admitted kind sequence)
-      (queries_admitted kind records sequence) (keeps_an_order kind records)
+      × ((queries_admitted kind records sequence ≡ false)
+      ⊎ ((queries_admitted kind records sequence ≡ true) × (is_explained kind records ≡ false)
+      × (unexplained_cause kind ≡ Query))))
+  cause-query = query_or_last (unexplained_cause kind) (extends_visibility records sequence)
+      (updates_admitted kind sequence) (queries_admitted kind records sequence) (is_explained kind records)
 
 -- the named sequence fails no condition exactly if it meets all three
 three_pass : (order update query : Bool)
@@ -139,11 +160,19 @@ sequence_cause-none kind records =
     three_pass (extends_visibility records (named_sequence kind records))
     (updates_admitted kind (named_sequence kind records)) (queries_admitted kind records (named_sequence kind records))
 
--- only of a list it is asked whether an order explains it
-pub order-only_of_lists : (kind : Kind) (records : Records) → ¬ (kind ≡ kinds.List) → keeps_an_order kind records ≡ true
-order-only_of_lists kinds.List records other = absurd (other refl)
-order-only_of_lists Counter records other = refl
-order-only_of_lists _ records other = refl
+-- only three kinds have a condition on the records as a whole
+pub explained-others : (kind : Kind) (records : Records) → ¬ (kind ≡ kinds.List) → ¬ (kind ≡ kinds.Any)
+    → ¬ (kind ≡ kinds.MvRegister) → is_explained kind records ≡ true
+explained-others kinds.List records no_list no_any no_register = absurd (no_list refl)
+explained-others kinds.Any records no_list no_any no_register = absurd (no_any refl)
+explained-others kinds.MvRegister records no_list no_any no_register = absurd (no_register refl)
+explained-others Counter records no_list no_any no_register = refl
+explained-others _ records no_list no_any no_register = refl
+
+-- only a list fails the order by it
+pub unexplained-order : (kind : Kind) → (unexplained_cause kind ≡ Order) ↔ (kind ≡ kinds.List)
+unexplained-order kinds.List = (λ is. refl, λ is. refl)
+unexplained-order _ = (λ is. absurd (cc is), λ is. absurd (cc is))
 
 -- the empty records hold
 cause_of-nil : (kind : Kind) → cause_of kind [] ≡ None

@@ -15,7 +15,7 @@ use Rattle.ra_labels.specs.declared.command.Command.{Command}
 use Rattle.ra_labels.specs.Records.{Records, label_count, labels_of}
 use Rattle.ra_labels.specs.Visibility.{has_delivered, sees}
 use Rattle.ra_labels.specs.Rewriting.{Part, Half, Act, acts_of, part_of, parts_of, updates_of}
-use Rattle.ra_labels.specs.ListHistory.{keeps_an_order}
+use Rattle.ra_labels.specs.Explained.{is_explained}
 use Rattle.ra_labels.specs.Linearization.{must_precede, extends_visibility, visible_updates, updates_admitted, queries_admitted}
 use Rattle.ra_labels.specs.NamedOrder.{timestamp_of, rank_of, stamp_cmp, label_cmp, insert_by, sort_by, named_labels, named_sequence}
 use Rattle.ra_labels.specs.Fault.{Holds}
@@ -61,6 +61,8 @@ pub rank_later : (kind : Kind) (command : Command) (records : Records) (label : 
 rank_later Counter command records label found = refl
 rank_later OrSet command records label found = refl
 rank_later kinds.List command records label found = refl
+rank_later kinds.Any command records label found = refl
+rank_later kinds.MvRegister command records label found = refl
 rank_later _ command records label found = timestamp_later command records label found
 
 cmp_later : (kind : Kind) (command : Command) (records : Records) (l m : Label) → Contains (labels_of records) l
@@ -300,16 +302,16 @@ module _ (kind : Kind) (records : Records) (next : NextOperation) where
       ↔ (IsPlacedInOrder now label (named_sequence kind now)
       × (updates_admitted kind (named_sequence kind now) ≡ true)
       × OwnQueriesAnswered kind now label (named_sequence kind now)
-      × (keeps_an_order kind now ≡ true))
+      × (is_explained kind now ≡ true))
   decides-all holds =
       let order = decides-order holds.visibility in
       let query = decides-query holds.queries in (
-        (λ is. (order.0 is.visibility, is.updates, query.0 is.queries, is.order)),
+        (λ is. (order.0 is.visibility, is.updates, query.0 is.queries, is.explained)),
         (λ known. record {
           each_part_once = IsPermutation-named_sequence kind now;
           visibility = order.1 known.0;
           updates = known.1;
           queries = query.1 known.2;
-          order = known.3;
+          explained = known.3;
         }),
       )

@@ -41,6 +41,7 @@ pub mod ListUpdates
 pub mod AmongParts
 pub mod ListsInAnyOrder
 pub mod AnyOrder
+pub mod OneState
 pub mod ListedOrders
 pub mod PartEdges
 pub mod OrderedParts

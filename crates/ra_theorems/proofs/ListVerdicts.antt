@@ -44,7 +44,7 @@ some_order : (precedes : Part → Part → Bool) (records : Records) (sequence :
     → (order : List ℕ) × IsOrderOfElements order records × Extends order (required_edges records)
 some_order precedes records sequence linearizes =
     let edges = required_edges records in
-    let (order, is) = (some-exactly (list_order_of (inserted_elements records) edges)).0 linearizes.order in
+    let (order, is) = (some-exactly (list_order_of (inserted_elements records) edges)).0 linearizes.explained in
     let (once, all, extends) = kept_order (inserted_elements records) edges order is in (
       order,
       record { once = once; all = all },

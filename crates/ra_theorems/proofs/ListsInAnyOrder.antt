@@ -337,5 +337,5 @@ module _ (records : Records) (sequence : List Part) (linearizes : Linearizes kin
             let (seen, leads, answered) = (queries-exactly kinds.List records sequence).0 linearizes.queries part query
             (named_in kinds.List records sequence linearizes part there) asks in
             (seen, visible_leads part.label.number seen leads, answered));
-        order = linearizes.order;
+        explained = linearizes.explained;
       }

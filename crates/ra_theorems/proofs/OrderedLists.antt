@@ -127,7 +127,7 @@ linearization_decided order precedes records sequence elements = (
           visibility = linearizes.visibility;
           updates = ap is_some led_free;
           queries = asked;
-          order = ap is_some listed;
+          explained = ap is_some listed;
         },
         extends,
       )),

@@ -56,6 +56,10 @@ edges_of_halves n (op.List (list.Insert insertion)) = append-nil (edges_of_updat
 edges_of_halves n (op.List (list.Remove x)) = refl
 edges_of_halves n (op.List (list.Read elements)) = append-nil (edges_of_query n (ask.Read elements))
 edges_of_halves n (op.List (list.Part elements)) = append-nil (edges_of_query n (ask.Part elements))
+edges_of_halves n op.AnyUpdate = refl
+edges_of_halves n (op.AnyRead value) = refl
+edges_of_halves n (op.MvWrite value) = refl
+edges_of_halves n (op.MvRead values) = refl
 
 -- the records require the edges of their labels
 pub required_by_label : (records : Records) (edge : Edge) → Contains (required_edges records) edge

@@ -5,6 +5,7 @@ use Rattle.std.specs.List.{list_all}
 use Rattle.std.proofs.lemmas.Bool.{false≢true, cond_both}
 use Rattle.ra_labels.specs.declared.kind.Kind.{Kind}
 use Rattle.ra_labels.specs.declared.kind.Kind.TheVariants.{Counter}
+use Rattle.ra_labels.specs.declared.kind.Kind.TheVariants as kinds
 use Rattle.ra_labels.specs.declared.operation.Op.{Op}
 use Rattle.ra_labels.specs.declared.operation.Op.TheVariants as op
 use Rattle.ra_labels.specs.declared.list_operation.ListOp.TheVariants as list
@@ -17,7 +18,7 @@ use Rattle.ra_labels.specs.declared.operation.Query.TheVariants.{Count, Last, Lw
 use Rattle.ra_labels.specs.declared.operation.Query.TheVariants as queries
 use Rattle.ra_labels.specs.Lists.{is_in_list, insert_after, hide}
 use Rattle.ra_labels.specs.FreeList.{ListState, list_step}
-use Rattle.ra_labels.specs.Specification.{State, Number, Written, Members, Pairs, Listed, Listing, initial_state, step_of, answers}
+use Rattle.ra_labels.specs.Specification.{State, Number, Written, Members, Pairs, Listed, Listing, OfAny, OfMvRegister, initial_state, step_of, answers}
 use Rattle.ra_labels.specs.Rewriting.{acts_of}
 use Rattle.ra_labels.specs.Answer.{kind_of, is_kind}
 use Rattle.ra_labels.specs.TheoremTerms.{kind_of_state, kind_of_update, kind_of_query, kind_of_act, admits_all}
@@ -54,11 +55,22 @@ step-known (Listed list) (RgaRemove x) =
     cond_both (is_in_list x list && not (x == 0)) (Some (Listed (hide x list))) None
     (StepKnown (Listed list) (RgaRemove x)) (λ is. (refl, refl)) (λ not_so. inr refl)
 step-known (Listing state) (updates.List change) = listing-known state change (list_step state change)
+step-known OfAny updates.AnyUpdate = (refl, refl)
+step-known OfMvRegister (updates.MvWrite value) = (refl, refl)
 step-known _ _ = inl refl
 
 pub step-kind : (state : State) (update : Update) (next : State) → step_of state update ≡ Some next
     → (kind_of_state next ≡ kind_of_state state) × (kind_of_update update ≡ kind_of_state state)
 step-kind state update next is = subst (StepKnown state update) is (step-known state update)
+
+-- the only state of an object of any type, and that of a multi-value register
+pub only_any : (state : State) → kind_of_state state ≡ kinds.Any → state ≡ OfAny
+only_any OfAny is = refl
+only_any _ is = absurd (cc (is))
+
+pub only_mv_register : (state : State) → kind_of_state state ≡ kinds.MvRegister → state ≡ OfMvRegister
+only_mv_register OfMvRegister is = refl
+only_mv_register _ is = absurd (cc (is))
 
 -- no query of another kind is admitted
 pub answers-of_kind : (state : State) (query : Query) → is_kind (kind_of_state state) (kind_of_query query) ≡ false
@@ -70,6 +82,8 @@ answers-of_kind (Pairs pairs) (ReadIds x ids) other = absurd (false≢true (sym 
 answers-of_kind (Pairs pairs) (OrRead asked) other = absurd (false≢true (sym other))
 answers-of_kind (Listed list) (RgaRead asked) other = absurd (false≢true (sym other))
 answers-of_kind (Listing state) (queries.List question) other = absurd (false≢true (sym other))
+answers-of_kind OfAny (queries.AnyRead value) other = absurd (false≢true (sym other))
+answers-of_kind OfMvRegister (queries.MvRead values) other = absurd (false≢true (sym other))
 answers-of_kind _ _ other = refl
 
 -- the parts of an operation have its kind

@@ -286,9 +286,12 @@ pub use Rattle.ra_theorems.proofs.Extensions.{linearization_by-stands as lineari
 pub use Rattle.ra_theorems.proofs.Extensions.{linearization_by-weaker as linearization_by_weaker_order}
 pub use Rattle.ra_theorems.proofs.Extensions.{linearization-stands as linearization_respects_order}
 pub use Rattle.ra_theorems.proofs.Extensions.{is_update-acts as update_iff_part_is_update}
+-- theorems::one_state
+pub use Rattle.ra_theorems.proofs.OneState.{no_sequence_cause as one_state_meets_conditions}
+pub use Rattle.ra_theorems.proofs.OneState.{holds_if_explained as condition_decides-holds, no_fault_if_explained as condition_decides-fault}
 -- theorems::fault
 pub use Rattle.ra_theorems.proofs.Faults.{cause-order as cause_is_first_failed-order}
-pub use Rattle.ra_theorems.proofs.Faults.{order-only_of_lists as order_only_of_lists}
+pub use Rattle.ra_theorems.proofs.Faults.{explained-others as conditions_of_kinds-others, unexplained-order as conditions_of_kinds-order}
 pub use Rattle.ra_theorems.proofs.Faults.{sequence_cause-none as sequence_cause_none_iff}
 pub use Rattle.ra_theorems.proofs.Faults.{cause-update as cause_is_first_failed-update}
 pub use Rattle.ra_theorems.proofs.Faults.{cause-query as cause_is_first_failed-query}

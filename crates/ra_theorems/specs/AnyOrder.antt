@@ -18,6 +18,8 @@ is_of_any_order LwwSet = false
 is_of_any_order OrSet = true
 is_of_any_order Rga = false
 is_of_any_order kinds.List = true
+is_of_any_order kinds.Any = true
+is_of_any_order kinds.MvRegister = true
 
 -- the updates of the labels that pass the test
 abbrev pub updates_that_pass : Records → (ℕ → Bool) → List Part

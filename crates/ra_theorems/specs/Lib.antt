@@ -1,6 +1,7 @@
 pub mod AnyOrder
 pub mod OrderedLists
 pub mod Counters
+pub mod OneState
 pub mod Worked
 pub mod WorkedTimestamps
 pub mod WorkedOrSets

@@ -12,6 +12,7 @@ pub mod insertion;
 pub mod joins;
 pub mod late;
 pub mod linearization;
+pub mod one_state;
 pub mod one_step;
 pub mod or_set;
 pub mod ordered_lists;

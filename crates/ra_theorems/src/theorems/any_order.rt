@@ -1,5 +1,5 @@
-//! Theorems about counters, OR-Sets and lists: all orders that respect visibility and explain the queries lead to the
-//! same state, so a violation is final.
+//! Theorems about counters, OR-Sets, lists, objects of any type and multi-value registers: all orders that respect
+//! visibility and explain the queries lead to the same state, so a violation is final.
 ghost use Rattle.std.specs.Prelude.{◌≡◌, ◌↔◌, ℕ, pos, ◌-ℤ◌, true, false, Bool, List, Contains, Some};
 ghost use Rattle.ra_labels.specs.declared.kind.Kind.{Kind};
 ghost use Rattle.ra_labels.specs.declared.kind.Kind.TheVariants.{Counter, Register, LwwSet, OrSet, Rga};
@@ -14,7 +14,7 @@ ghost use Rattle.ra_labels.specs.TheoremTerms.{admits_all, IdentifiersAreUnique}
 ghost use Rattle.ra_theorems.specs.Counters.{increments_in, decrements_in};
 ghost use Rattle.ra_theorems.specs.AnyOrder.{is_of_any_order, updates_that_pass, IsOrderOf, IsAddedAndNeverTakenOut, IsFinal};
 
-/// Theorem: `is_of_any_order` holds of counter, OR-Set and list, and of no other kind.
+/// Theorem: `is_of_any_order` holds of counter, OR-Set, list, any type and multi-value register, and of no other kind.
 pub fn any_order_kinds()
     ensures counter { is_of_any_order Counter ≡ true }
     ensures register { is_of_any_order Register ≡ false }
@@ -22,6 +22,8 @@ pub fn any_order_kinds()
     ensures or_set { is_of_any_order OrSet ≡ true }
     ensures rga { is_of_any_order Rga ≡ false }
     ensures list { is_of_any_order kinds.List ≡ true }
+    ensures any { is_of_any_order kinds.Any ≡ true }
+    ensures mv_register { is_of_any_order kinds.MvRegister ≡ true }
 {}
 
 /// Theorem: if the records hold and are of a kind whose states admit all its updates, as a counter or an OR-Set, the
@@ -43,8 +45,8 @@ pub fn any_order_same_state()
         → Contains pairs (x, id) ↔ IsAddedAndNeverTakenOut x id (updates_of (updates_that_pass records passes)) }
 {}
 
-/// Theorem: if identifiers are unique and some sequence linearizes the records of a counter, an OR-Set or a list, even
-/// by visibility alone, the named sequence does.
+/// Theorem: if identifiers are unique and some sequence linearizes the records of a kind of `is_of_any_order`, even by
+/// visibility alone, the named sequence does.
 pub fn named_sequence_complete()
     ensures { (kind : Kind) (records : Records) (sequence : List Part) → is_of_any_order kind ≡ true
         → IdentifiersAreUnique records
@@ -57,8 +59,8 @@ pub fn linearization_by_visibility()
         → IsRaLinearizationBy (is_visible_to records) kind records sequence }
 {}
 
-/// Theorem: if identifiers are unique, a fault of a counter, an OR-Set or a list is final: no sequence at all
-/// linearizes the records up to its label.
+/// Theorem: if identifiers are unique, a fault of a kind of `is_of_any_order` is final: no sequence at all linearizes
+/// the records up to its label.
 pub fn violation_is_final()
     ensures { (kind : Kind) (records : Records) (fault : Fault) → is_of_any_order kind ≡ true
         → IdentifiersAreUnique records → fault_of kind records ≡ Some fault → IsFinal kind records fault.label }

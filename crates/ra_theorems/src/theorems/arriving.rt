@@ -3,8 +3,7 @@ ghost use Rattle.std.specs.Prelude.{◌≡◌, ◌↔◌, ◌⊎◌, true, false
 ghost use Rattle.std.specs.Ordering.{is_lt};
 ghost use Rattle.std.specs.declared.cmp.Ordering.TheVariants.{Less};
 ghost use Rattle.ra_labels.specs.declared.kind.Kind.{Kind};
-ghost use Rattle.ra_labels.specs.declared.kind.Kind.TheVariants.{Counter, OrSet, Rga};
-ghost use Rattle.ra_labels.specs.declared.kind.Kind.TheVariants as kinds;
+ghost use Rattle.ra_labels.specs.declared.kind.Kind.TheVariants.{Register, LwwSet, Rga};
 ghost use Rattle.ra_labels.specs.declared.operation.Update.{Update};
 ghost use Rattle.ra_labels.specs.declared.operation.Update.TheVariants.{After, RgaRemove};
 ghost use Rattle.ra_labels.specs.declared.label.Stamp.{Stamp};
@@ -38,9 +37,9 @@ pub fn label_position_by_order()
 
 /// Theorem: in the kinds with timestamp order, labels with different stamps of their own are ordered by these stamps.
 pub fn stamped_labels_sorted()
-    ensures { (kind : Kind) (records : Records) (l m : Label) (s t : Stamp) → ¬ (kind ≡ Counter) → ¬ (kind ≡ OrSet)
-        → ¬ (kind ≡ kinds.List)
-        → l.stamp ≡ Some s → m.stamp ≡ Some t → ¬ (s ≡ t) → label_cmp kind records l m ≡ stamp_cmp s t }
+    ensures { (kind : Kind) (records : Records) (l m : Label) (s t : Stamp)
+        → (kind ≡ Register) ⊎ (kind ≡ LwwSet) ⊎ (kind ≡ Rga) → l.stamp ≡ Some s → m.stamp ≡ Some t → ¬ (s ≡ t)
+        → label_cmp kind records l m ≡ stamp_cmp s t }
 {}
 
 /// Theorem: one more operation inserts its update among those of all labels, at its position in the named order. An

@@ -5,34 +5,36 @@ ghost use Rattle.ra_labels.specs.declared.kind.Kind.TheVariants as kinds;
 ghost use Rattle.ra_labels.specs.declared.reply.Fault.{Fault};
 ghost use Rattle.ra_labels.specs.declared.reply.Cause.TheVariants.{Order, Update, Query};
 ghost use Rattle.ra_labels.specs.Records.{Records, label_count, records_to};
-ghost use Rattle.ra_labels.specs.ListHistory.{keeps_an_order};
+ghost use Rattle.ra_labels.specs.Explained.{is_explained, unexplained_cause};
 ghost use Rattle.ra_labels.specs.Linearization.{extends_visibility, updates_admitted, queries_admitted};
 ghost use Rattle.ra_labels.specs.NamedOrder.{named_sequence};
 ghost use Rattle.ra_labels.specs.Fault.{Holds, sequence_cause, cause_of, fault_of, records_before_fault};
 ghost use Rattle.ra_labels.specs.TheoremTerms.{IsLeastFault};
 
-/// Theorem: records hold exactly if their named sequence fails none of the conditions, and an order explains
-/// the elements of a list.
+/// Theorem: records hold exactly if their named sequence fails none of the conditions, and they meet the condition of
+/// their kind.
 pub fn cause_none_iff_holds()
     ensures { (kind : Kind) (records : Records) → (cause_of kind records ≡ None) ↔ Holds kind records }
 {}
 
-/// Theorem: the cause is the first of the three conditions that the named sequence fails; or it meets them, and no
-/// order explains the elements of a list.
+/// Theorem: the cause is the first of the three conditions that the named sequence fails; or it meets them, and the
+/// records do not meet the condition of their kind.
 pub fn cause_is_first_failed()
     ensures order { (kind : Kind) (records : Records) → (cause_of kind records ≡ Some Order)
         ↔ ((extends_visibility records (named_sequence kind records) ≡ false)
         ⊎ ((extends_visibility records (named_sequence kind records) ≡ true)
         × (updates_admitted kind (named_sequence kind records) ≡ true)
         × (queries_admitted kind records (named_sequence kind records) ≡ true)
-        × (keeps_an_order kind records ≡ false))) }
+        × (is_explained kind records ≡ false) × (unexplained_cause kind ≡ Order))) }
     ensures update { (kind : Kind) (records : Records) → (cause_of kind records ≡ Some Update)
         ↔ ((extends_visibility records (named_sequence kind records) ≡ true)
         × (updates_admitted kind (named_sequence kind records) ≡ false)) }
     ensures query { (kind : Kind) (records : Records) → (cause_of kind records ≡ Some Query)
         ↔ ((extends_visibility records (named_sequence kind records) ≡ true)
         × (updates_admitted kind (named_sequence kind records) ≡ true)
-        × (queries_admitted kind records (named_sequence kind records) ≡ false)) }
+        × ((queries_admitted kind records (named_sequence kind records) ≡ false)
+        ⊎ ((queries_admitted kind records (named_sequence kind records) ≡ true)
+        × (is_explained kind records ≡ false) × (unexplained_cause kind ≡ Query)))) }
 {}
 
 /// Theorem: the named sequence fails no condition exactly if it meets all three.
@@ -43,9 +45,12 @@ pub fn sequence_cause_none_iff()
         × (queries_admitted kind records (named_sequence kind records) ≡ true)) }
 {}
 
-/// Theorem: of no kind but the list is it asked whether an order explains the elements.
-pub fn order_only_of_lists()
-    ensures { (kind : Kind) (records : Records) → ¬ (kind ≡ kinds.List) → keeps_an_order kind records ≡ true }
+/// Theorem: only a list, an object of any type and a multi-value register have a condition on the records as a whole. A
+/// list that does not meet it fails the order, and no other kind does.
+pub fn conditions_of_kinds()
+    ensures others { (kind : Kind) (records : Records) → ¬ (kind ≡ kinds.List) → ¬ (kind ≡ kinds.Any)
+        → ¬ (kind ≡ kinds.MvRegister) → is_explained kind records ≡ true }
+    ensures order { (kind : Kind) → (unexplained_cause kind ≡ Order) ↔ (kind ≡ kinds.List) }
 {}
 
 /// Theorem: if records have no fault, they hold.

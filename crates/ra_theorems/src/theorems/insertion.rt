@@ -7,7 +7,7 @@ ghost use Rattle.ra_labels.specs.declared.label.Label.{Label};
 ghost use Rattle.ra_labels.specs.declared.command.Command.TheVariants.{Deliver};
 ghost use Rattle.ra_labels.specs.Records.{Records, label_count, labels_of};
 ghost use Rattle.ra_labels.specs.Visibility.{is_update, has_delivered};
-ghost use Rattle.ra_labels.specs.ListHistory.{keeps_an_order};
+ghost use Rattle.ra_labels.specs.Explained.{is_explained};
 ghost use Rattle.ra_labels.specs.Linearization.{extends_visibility, visible_updates, updates_admitted, queries_admitted};
 ghost use Rattle.ra_labels.specs.NamedOrder.{named_labels, named_sequence};
 ghost use Rattle.ra_labels.specs.Fault.{Holds};
@@ -39,7 +39,7 @@ pub fn new_label_preserves_visibility()
 
 /// Theorem: if records hold, the new label alone decides whether they hold with it. They do exactly if its parts stand
 /// behind all that must precede them, all updates are admitted in the named order, and its queries are answered after
-/// the updates that it sees. For a list, an order has to explain the elements as well.
+/// the updates that it sees. The records have to meet the condition of their kind as well, if it has one.
 pub fn new_label_decides()
     ensures order { (kind : Kind) (records : Records) (next : NextOperation)
         → extends_visibility records (named_sequence kind records) ≡ true
@@ -55,7 +55,7 @@ pub fn new_label_decides()
         Holds kind now ↔ (IsPlacedInOrder now (label_of records next) sequence
         × (updates_admitted kind sequence ≡ true)
         × OwnQueriesAnswered kind now (label_of records next) sequence
-        × (keeps_an_order kind now ≡ true)) }
+        × (is_explained kind now ≡ true)) }
 {}
 
 /// Theorem: an operation inserts its update among those delivered to its replica. If it is no update, they do not

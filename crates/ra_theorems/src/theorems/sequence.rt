@@ -77,7 +77,7 @@ pub fn named_order_unique()
         → IsSorted (label_cmp kind records) labels → labels ≡ named_labels kind records }
 {}
 
-/// Theorem: if all ranks are the lowest, as those of counter, OR-Set and list are, the named order is the order of
+/// Theorem: if all ranks are the lowest, as those of a kind without timestamps are, the named order is the order of
 /// acceptance: the execution order.
 pub fn execution_order_is_acceptance_order()
     ensures labels { (kind : Kind) (records : Records) → ((label : Label) → rank_of kind records label ≡ lowest_rank)

@@ -13,7 +13,7 @@ other = record {
   visibility = refl;
   updates = refl;
   queries = refl;
-  order = refl;
+  explained = refl;
 }
 
 pub returns-clause-other : goal.returns-clause-other

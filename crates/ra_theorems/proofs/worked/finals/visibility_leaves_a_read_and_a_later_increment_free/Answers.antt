@@ -11,7 +11,7 @@ returns-clause-one_by_visibility c = record {
   visibility = refl;
   updates = refl;
   queries = refl;
-  order = refl;
+  explained = refl;
 }
 
 pub returns-clause-none_by_the_replicas_order : goal.returns-clause-none_by_the_replicas_order

@@ -1,0 +1,15 @@
+pub mod Times
+pub mod StuckSets
+pub mod Releases
+pub mod OpenCounts
+pub mod ReadAt
+pub mod Steps
+pub mod Using
+pub mod FreeLabels
+pub mod AllUnmet
+pub mod Counting
+pub mod UseLists
+pub mod OpenLabels
+pub mod Solutions
+pub mod NamedBelow
+pub mod TheoremIndex
