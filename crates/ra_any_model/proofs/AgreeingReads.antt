@@ -13,7 +13,7 @@ use Rattle.ra_labels.specs.Records.{Records, label_count, labels_of, next_label}
 use Rattle.ra_labels.specs.Visibility.{has_delivered, sees}
 use Rattle.ra_labels.specs.Agreement.{is_seen_alike, sees_the_same, agrees_with, agrees_with_earlier, reads_agree}
 use Rattle.ra_labels.proofs.Counted.{numbers_below_count}
-use Rattle.ra_labels.proofs.InLists.{list_all-contains, list_all-from_contains}
+use Rattle.ra_labels.proofs.InLists.{bool_same, list_all-contains, list_all-from_contains}
 use Rattle.ra_labels.proofs.Members.{head_or_behind, at_head, behind_head, none_there}
 use Rattle.ra_theorems.proofs.TheoremIndex.{sees_earlier_updates-updates, delivered_are_updates-there, delivered_are_updates-updates}
 use Rattle.ra_labels.proofs.Ranges.{in_range}
@@ -204,3 +204,19 @@ same_agree value_of (_ ∷ before) same = same_agree value_of before same
 pub agree_exactly : (value_of : Op → Option ℕ) (records : Records)
     → (reads_agree value_of records ≡ true) ↔ SameSameValue value_of records
 agree_exactly value_of records = (agree_same value_of records, same_agree value_of records)
+
+-- ---- records with the same labels and the same visibility
+agree_from : (value_of : Op → Option ℕ) (one other : Records) → labels_of one ≡ labels_of other
+    → ((n m : ℕ) → sees one n m ≡ sees other n m) → reads_agree value_of one ≡ true → reads_agree value_of other ≡ true
+agree_from value_of one other labels sight agree = (agree_exactly value_of other).1
+    (λ read earlier value second read_there earlier_there read_is earlier_is same.
+    (agree_exactly value_of one).0 agree read earlier value second
+    (subst (λ ls. Contains ls read) (sym labels) read_there)
+    (subst (λ ls. Contains ls earlier) (sym labels) earlier_there) read_is earlier_is
+    (λ n. sight read.number n ∙ same n ∙ sym (sight earlier.number n)))
+
+pub agree_alike : (value_of : Op → Option ℕ) (one other : Records) → labels_of one ≡ labels_of other
+    → ((n m : ℕ) → sees one n m ≡ sees other n m) → reads_agree value_of one ≡ reads_agree value_of other
+agree_alike value_of one other labels sight = bool_same (reads_agree value_of one) (reads_agree value_of other)
+    (agree_from value_of one other labels sight)
+    (agree_from value_of other one (sym labels) (λ n m. sym (sight n m)))

@@ -15,6 +15,9 @@ use Rattle.ra_labels.specs.Visibility.{is_update_at, sees}
 use Rattle.ra_labels.specs.Places.{issuer_of}
 use Rattle.ra_labels.specs.Linearization.{extends}
 use Rattle.ra_labels.specs.declared.command.Command.TheVariants.{Operate}
+use Rattle.ra_labels.specs.declared.kind.Kind.TheVariants as kinds
+use Rattle.ra_labels.specs.Explained.{value_read}
+use Rattle.ra_labels.specs.Fault.{Holds, fault_of}
 use Rattle.ra_labels.specs.Agreement.{agrees_with_earlier, reads_agree}
 use Rattle.ra_labels.proofs.InLists.{bool_same}
 use Rattle.ra_labels.proofs.Members.{there-kept, kept-there}
@@ -22,7 +25,8 @@ use Rattle.ra_labels.proofs.Ranges.{in_range}
 use Rattle.ra_any_model.specs.Deterministic.{Deterministic, state_from, state_after}
 use Rattle.ra_any_model.specs.Explained.{numbers_of, must_come_before, updates_in, seen_updates_in, IsAnswerAfter, EachReadIsAnswered, Explains}
 use Rattle.ra_any_model.specs.Replayed.{is_read_after, value_read_after, replayed}
-use Rattle.ra_theorems.proofs.TheoremIndex.{sees_earlier_updates-earlier}
+use Rattle.ra_theorems.specs.OneState.{EachLabelIsOf}
+use Rattle.ra_theorems.proofs.TheoremIndex.{sees_earlier_updates-earlier, condition_decides-holds, condition_decides-fault}
 use Rattle.ra_any_model.proofs.Ranges.{range_extends, filter_same, found}
 use Rattle.ra_any_model.proofs.AgreeingReads.{agree_exactly, sees_beyond}
 
@@ -137,6 +141,23 @@ agree_iff_some value_of records = (
   (λ agree. (replayed value_of records, numbers_of records, agreeing_explained value_of records agree)),
   (λ (specification, sequence, explains). explained_agree (List ℕ) specification value_of records sequence explains),
 )
+
+-- ---- the kind `any`
+pub any_holds : (records : Records) → EachLabelIsOf kinds.Any records → Holds kinds.Any records
+    ↔ ((specification : Deterministic (List ℕ)) × (sequence : List ℕ)
+    × Explains (List ℕ) specification value_read records sequence)
+any_holds records each =
+    let decides = condition_decides-holds kinds.Any records (inl refl) each in
+    let some = agree_iff_some value_read records in
+    ((λ holds. some.0 (decides.0 holds)), (λ explained. decides.1 (some.1 explained)))
+
+pub any_has_no_fault : (records : Records) → EachLabelIsOf kinds.Any records → (fault_of kinds.Any records ≡ None)
+    ↔ ((specification : Deterministic (List ℕ)) × (sequence : List ℕ)
+    × Explains (List ℕ) specification value_read records sequence)
+any_has_no_fault records each =
+    let decides = condition_decides-fault kinds.Any records (inl refl) each in
+    let some = agree_iff_some value_read records in
+    ((λ none. some.0 (decides.0 none)), (λ explained. decides.1 (some.1 explained)))
 
 -- ---- disagreement is final
 pub none_explains : (State : Type 0) (value_of : Op → Option ℕ) (records : Records) → reads_agree value_of records ≡ false

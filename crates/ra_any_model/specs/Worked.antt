@@ -1,21 +1,15 @@
--- Histories of the worked examples, newest command first. An increment stands for any update, and `Last` for a read.
-use Rattle.std.specs.Prelude.{ℕ, [], ◌∷◌, Option, Some, None}
-use Rattle.ra_labels.specs.declared.operation.Op.{Op}
-use Rattle.ra_labels.specs.declared.operation.Op.TheVariants.{Inc, Last}
+-- Histories of the worked examples, newest command first.
+use Rattle.std.specs.Prelude.{ℕ, [], ◌∷◌, None}
+use Rattle.ra_labels.specs.declared.operation.Op.TheVariants.{AnyUpdate, AnyRead}
 use Rattle.ra_labels.specs.declared.command.Command.{Command}
 use Rattle.ra_labels.specs.declared.command.Command.TheVariants.{Operate, Deliver}
 use Rattle.ra_labels.specs.Records.{Records}
 
--- the value that an operation read
-abbrev pub value_read : Op → Option ℕ
-value_read (Last value) = value
-value_read _ = None
-
 abbrev pub update_by : ℕ → Command
-update_by replica = Operate replica Inc None
+update_by replica = Operate replica AnyUpdate None
 
 abbrev pub read_by : ℕ → ℕ → Command
-read_by replica value = Operate replica (Last (Some value)) None
+read_by replica value = Operate replica (AnyRead value) None
 
 -- `a update`; `b got 0`; `a read 7`; `b read 7`
 abbrev pub read_alike : Records

@@ -3,10 +3,14 @@ ghost use Rattle.std.specs.Prelude.{◌≡◌, ◌↔◌, ℕ, ◌<◌, Bool, tr
 ghost use Rattle.ra_labels.specs.declared.operation.Op.{Op};
 ghost use Rattle.ra_labels.specs.declared.label.Label.{Label};
 ghost use Rattle.ra_labels.specs.declared.command.Command.TheVariants.{Operate};
+ghost use Rattle.ra_labels.specs.declared.kind.Kind.TheVariants as kinds;
 ghost use Rattle.ra_labels.specs.Records.{Records, labels_of};
 ghost use Rattle.ra_labels.specs.Visibility.{has_delivered, sees};
 ghost use Rattle.ra_labels.specs.Agreement.{sees_the_same, reads_agree};
+ghost use Rattle.ra_labels.specs.Explained.{value_read};
+ghost use Rattle.ra_labels.specs.Fault.{Holds, fault_of};
 ghost use Rattle.ra_labels.specs.HistorySoFar.{History};
+ghost use Rattle.ra_theorems.specs.OneState.{EachLabelIsOf};
 ghost use Rattle.ra_visibility.specs.Seen.{count_in};
 ghost use Rattle.ra_visibility.specs.Tracked.{Tracked, IsVisibilityOf, replicas_in, labels_in, seen_in, delivered_count};
 ghost use Rattle.ra_any_model.specs.Counts.{CountsIssued, HaveSameCounts};
@@ -53,6 +57,23 @@ pub fn reads_agree_iff_some_specification()
     ensures { (value_of : Op → Option ℕ) (records : Records) → (reads_agree value_of records ≡ true)
         ↔ ((specification : Deterministic (List ℕ)) × (sequence : List ℕ)
         × Explains (List ℕ) specification value_of records sequence) }
+{}
+
+/// Theorem: records whose labels are all of the kind `any` hold, and have no fault, exactly if some deterministic
+/// specification and some sequence explain them.
+pub fn any_holds_iff_some_specification()
+    ensures holds { (records : Records) → EachLabelIsOf kinds.Any records → Holds kinds.Any records
+        ↔ ((specification : Deterministic (List ℕ)) × (sequence : List ℕ)
+        × Explains (List ℕ) specification value_read records sequence) }
+    ensures fault { (records : Records) → EachLabelIsOf kinds.Any records → (fault_of kinds.Any records ≡ None)
+        ↔ ((specification : Deterministic (List ℕ)) × (sequence : List ℕ)
+        × Explains (List ℕ) specification value_read records sequence) }
+{}
+
+/// Theorem: only the labels, and which of them sees which, decide whether the reads agree.
+pub fn visibility_decides_agreement()
+    ensures { (value_of : Op → Option ℕ) (one other : Records) → labels_of one ≡ labels_of other
+        → ((n m : ℕ) → sees one n m ≡ sees other n m) → reads_agree value_of one ≡ reads_agree value_of other }
 {}
 
 /// Theorem: where the reads disagree, no deterministic specification and no sequence explain the records, whatever the

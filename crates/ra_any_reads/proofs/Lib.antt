@@ -1,3 +1,4 @@
 pub mod EqualCounts
 pub mod Trimmed
 pub mod Entries
+pub mod TheoremIndex

@@ -83,4 +83,9 @@ impl AnyReads {
         self.firsts.insert(key, First { value, label })?;
         Ok(())
     }
+
+    /// Returns the allocator of the map.
+    pub fn allocator(&self) -> Global {
+        self.alloc
+    }
 }

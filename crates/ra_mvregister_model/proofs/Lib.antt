@@ -3,3 +3,4 @@ pub mod ChangedSiblings
 pub mod FewSiblings
 pub mod Sequences
 pub mod ReadValues
+pub mod TheoremIndex

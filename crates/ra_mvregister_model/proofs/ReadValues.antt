@@ -1,6 +1,6 @@
 -- Lemmas on reads: the values of the siblings after the writes that a label sees are those that it has to list.
 use Rattle.std.proofs.Common.{◌≡◌, ℕ, ◌<◌, Bool, true, false, eqb, List, [], ◌∷◌, ◌++◌, Option, Some, None, refl, sym, ap, ◌∙◌, subst, inl, inr, arith}
-use Rattle.std.specs.Prelude.{◌↔◌, ◌⊎◌, ◌&&◌, Contains, filter_map, option_and_then}
+use Rattle.std.specs.Prelude.{◌↔◌, ◌⊎◌, ◌&&◌, Contains, filter_map, find, option_and_then}
 use Rattle.std.specs.List.{cons_option, list_all, range_with_len}
 use Rattle.std.specs.Option.{option_map_or}
 use Rattle.std.proofs.lemmas.Bool.{eq-eqb, ne_eqb, cond-true, cond-false, false≢true, false_from_ne_true, and_parts}
@@ -8,12 +8,17 @@ use Rattle.std.proofs.lemmas.Option.{none-some, same_Some}
 use Rattle.ra_labels.specs.declared.operation.Op.{Op}
 use Rattle.ra_labels.specs.declared.label.Label.{Label}
 use Rattle.ra_labels.specs.declared.command.Command.TheVariants.{Operate, Deliver, Join, Verdict}
+use Rattle.ra_labels.specs.declared.kind.Kind.TheVariants as kinds
+use Rattle.ra_labels.specs.Explained.{value_written, values_listed}
+use Rattle.ra_labels.specs.Fault.{Holds, fault_of}
 use Rattle.ra_labels.specs.Lists.{have_same_elements}
 use Rattle.ra_labels.specs.Records.{Records, label_count, labels_of, label_at, next_label}
-use Rattle.ra_labels.specs.Visibility.{IsCausal}
+use Rattle.ra_labels.specs.Visibility.{IsCausal, sees}
 use Rattle.ra_labels.specs.Siblings.{siblings_at, replaced_by, values_of, values_at, lists_values, reads_list_siblings}
 use Rattle.ra_labels.proofs.InLists.{bool_same, same-exactly}
 use Rattle.ra_labels.proofs.Members.{head_or_behind, at_head, behind_head, none_there}
+use Rattle.ra_theorems.specs.OneState.{EachLabelIsOf}
+use Rattle.ra_theorems.proofs.TheoremIndex.{condition_decides-holds, condition_decides-fault}
 use Rattle.ra_mvregister_model.specs.Replacing.{siblings_after, seen_in, is_read_explained, explains_reads, IsSequenceOf}
 use Rattle.ra_mvregister_model.proofs.Sequences.{any_sequence, by_number}
 use Rattle.ra_mvregister_model.proofs.UnseenLabels.{delivered_below, seen_below, siblings_exactly, replaced_exactly, replaced-new, replaced-others}
@@ -194,3 +199,58 @@ module _ (written : Op → Option ℕ) (listed : Op → Option (List ℕ)) where
       → explains_reads written listed (later ++ records) sequence ≡ false
   final later records sequence causal is wrong =
       decided (later ++ records) sequence causal is ∙ still_wrong later records wrong
+
+-- ---- the kind `mvregister`
+pub register_holds : (records : Records) → EachLabelIsOf kinds.MvRegister records → IsCausal records
+    → Holds kinds.MvRegister records ↔ ((sequence : List ℕ) × IsSequenceOf records sequence
+    × (explains_reads value_written values_listed records sequence ≡ true))
+register_holds records each causal =
+    let decides = condition_decides-holds kinds.MvRegister records (inr refl) each in
+    let some = some_decided value_written values_listed records causal in
+    ((λ holds. some.0 (decides.0 holds)), (λ explained. decides.1 (some.1 explained)))
+
+pub register_has_no_fault : (records : Records) → EachLabelIsOf kinds.MvRegister records → IsCausal records
+    → (fault_of kinds.MvRegister records ≡ None) ↔ ((sequence : List ℕ) × IsSequenceOf records sequence
+    × (explains_reads value_written values_listed records sequence ≡ true))
+register_has_no_fault records each causal =
+    let decides = condition_decides-fault kinds.MvRegister records (inr refl) each in
+    let some = some_decided value_written values_listed records causal in
+    ((λ none. some.0 (decides.0 none)), (λ explained. decides.1 (some.1 explained)))
+
+-- ---- records with the same labels and the same visibility
+module _ (written : Op → Option ℕ) (listed : Op → Option (List ℕ)) (one other : Records)
+    (labels : labels_of one ≡ labels_of other) (sight : (n m : ℕ) → sees one n m ≡ sees other n m) where
+  replaced_alike : (n m : ℕ) → Contains (replaced_by one n) m ↔ Contains (replaced_by other n) m
+  replaced_alike n m = (
+    (λ there.
+        let (seen, unseen) = (replaced_exactly one n m).0 there in
+        (replaced_exactly other n m).1
+        (sym (sight n m) ∙ seen, λ k by_n. sym (sight k m) ∙ unseen k (sight n k ∙ by_n))),
+    (λ there.
+        let (seen, unseen) = (replaced_exactly other n m).0 there in
+        (replaced_exactly one n m).1
+        (sight n m ∙ seen, λ k by_n. sight k m ∙ unseen k (sym (sight n k) ∙ by_n))),
+  )
+
+  values_alike : (ns : List ℕ) → values_of written one ns ≡ values_of written other ns
+  values_alike ns = ap (λ ls. filter_map (λ n. option_and_then (λ (l : Label). written l.op)
+      (find (λ (l : Label). eqb l.number n) ls)) ns) labels
+
+  right_alike : (label : Label) → is_right written listed one label ≡ is_right written listed other label
+  right_alike label =
+      let n = label.number in
+      let value = λ (m : ℕ). option_and_then (λ (l : Label). written l.op) (label_at other m) in
+      let mine = replaced_by one n in
+      let theirs = replaced_by other n in
+      ap (λ vs. lists_values listed label.op vs) (values_alike mine)
+      ∙ listed_alike (listed label.op) (values_of written other mine) (values_of written other theirs) (λ v. (
+        mapped_same value mine theirs (λ m. (replaced_alike n m).0) v,
+        mapped_same value theirs mine (λ m. (replaced_alike n m).1) v,
+      ))
+
+  pub reads_alike : reads_list_siblings written listed one ≡ reads_list_siblings written listed other
+  reads_alike =
+      sym (by_labels written listed one)
+      ∙ all_alike (is_right written listed one) (is_right written listed other) (labels_of one) (λ label there. right_alike label)
+      ∙ ap (list_all (is_right written listed other)) labels
+      ∙ by_labels written listed other

@@ -1,26 +1,16 @@
--- Worked examples: small histories of a multi-value register, newest first. As operations have no variant for this
--- kind yet, a write of a register is used as a write, and a read of an OR-Set as a read.
-use Rattle.std.specs.Prelude.{ℕ, List, [], ◌∷◌, Option, Some, None, map}
-use Rattle.ra_labels.specs.declared.operation.Op.{Op}
-use Rattle.ra_labels.specs.declared.operation.Op.TheVariants.{Write, OrRead}
+-- Worked examples: small histories of a multi-value register, newest first.
+use Rattle.std.specs.Prelude.{ℕ, List, [], ◌∷◌, None}
+use Rattle.ra_labels.specs.declared.operation.Op.TheVariants.{MvWrite, MvRead}
 use Rattle.ra_labels.specs.declared.command.Command.{Command}
 use Rattle.ra_labels.specs.declared.command.Command.TheVariants.{Operate, Deliver, Join}
 use Rattle.ra_labels.specs.Records.{Records}
 
-abbrev pub written_by : Op → Option ℕ
-written_by (Write value) = Some value
-written_by _ = None
-
-abbrev pub listed_by : Op → Option (List ℕ)
-listed_by (OrRead list) = Some list
-listed_by _ = None
-
 -- `a write v`, `a read list`, where a and b are the replicas 0 and 1
 abbrev pub writes : ℕ → ℕ → Command
-writes replica value = Operate replica (Write value) None
+writes replica value = Operate replica (MvWrite value) None
 
 abbrev pub reads : ℕ → List ℕ → Command
-reads replica list = Operate replica (OrRead list) None
+reads replica list = Operate replica (MvRead list) None
 
 -- `a write 1`; `b write 2`; `a got 1`
 abbrev pub two_writes : Records

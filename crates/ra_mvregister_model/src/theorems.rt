@@ -1,13 +1,17 @@
 //! The theorems about siblings, each the clause of a function with an empty body.
-ghost use Rattle.std.specs.Prelude.{◌≡◌, ◌↔◌, ◌⊎◌, ℕ, ◌<◌, ◌≤◌, true, false, List, [], ◌∷◌, ◌++◌, length, Option, Contains};
+ghost use Rattle.std.specs.Prelude.{◌≡◌, ◌↔◌, ◌⊎◌, ℕ, ◌<◌, ◌≤◌, true, false, List, [], ◌∷◌, ◌++◌, length, Option, None, Contains};
 ghost use Rattle.ra_labels.specs.Lists.{rises};
 ghost use Rattle.ra_labels.specs.declared.operation.Op.{Op};
 ghost use Rattle.ra_labels.specs.declared.command.Command.TheVariants.{Operate, Deliver, Join};
-ghost use Rattle.ra_labels.specs.Records.{Records, label_count};
+ghost use Rattle.ra_labels.specs.declared.kind.Kind.TheVariants as kinds;
+ghost use Rattle.ra_labels.specs.Records.{Records, label_count, labels_of};
 ghost use Rattle.ra_labels.specs.Visibility.{is_update, is_update_at, has_delivered, sees, IsCausal};
 ghost use Rattle.ra_labels.specs.Places.{issuer_of};
 ghost use Rattle.ra_labels.specs.Siblings.{siblings_at, replaced_by, reads_list_siblings};
+ghost use Rattle.ra_labels.specs.Explained.{value_written, values_listed};
+ghost use Rattle.ra_labels.specs.Fault.{Holds, fault_of};
 ghost use Rattle.ra_labels.specs.TheoremTerms.{IsCausalDelivery};
+ghost use Rattle.ra_theorems.specs.OneState.{EachLabelIsOf};
 ghost use Rattle.ra_mvregister_model.specs.Unseen.{IsUnseenAmong};
 ghost use Rattle.ra_mvregister_model.specs.Replacing.{siblings_after, seen_in, explains_reads, IsSequenceOf};
 
@@ -88,6 +92,24 @@ pub fn siblings_decide_linearization()
     ensures some { (written : Op → Option ℕ) (listed : Op → Option (List ℕ)) (records : Records) → IsCausal records
         → (reads_list_siblings written listed records ≡ true) ↔ ((sequence : List ℕ) × IsSequenceOf records sequence
         × (explains_reads written listed records sequence ≡ true)) }
+{}
+
+/// Theorem: causal records whose labels are all of the kind `mvregister` hold, and have no fault, exactly if some
+/// sequence explains their reads.
+pub fn mvregister_holds_iff_some_sequence()
+    ensures holds { (records : Records) → EachLabelIsOf kinds.MvRegister records → IsCausal records
+        → Holds kinds.MvRegister records ↔ ((sequence : List ℕ) × IsSequenceOf records sequence
+        × (explains_reads value_written values_listed records sequence ≡ true)) }
+    ensures fault { (records : Records) → EachLabelIsOf kinds.MvRegister records → IsCausal records
+        → (fault_of kinds.MvRegister records ≡ None) ↔ ((sequence : List ℕ) × IsSequenceOf records sequence
+        × (explains_reads value_written values_listed records sequence ≡ true)) }
+{}
+
+/// Theorem: only the labels, and which of them sees which, decide whether each read lists the values of the siblings.
+pub fn visibility_decides_reads()
+    ensures { (written : Op → Option ℕ) (listed : Op → Option (List ℕ)) (one other : Records)
+        → labels_of one ≡ labels_of other → ((n m : ℕ) → sees one n m ≡ sees other n m)
+        → reads_list_siblings written listed one ≡ reads_list_siblings written listed other }
 {}
 
 /// Theorem: if a read does not list the values of the siblings, no sequence explains the reads of these records or of

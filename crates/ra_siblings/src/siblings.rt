@@ -253,6 +253,11 @@ impl Siblings {
         Ok(values.as_slice() == list)
     }
 
+    /// Returns the allocator of the lists.
+    pub fn allocator(&self) -> Global {
+        *self.labels.allocator()
+    }
+
     // Returns the values that the labels wrote, in the order of the labels.
     fn written(&self, labels: &[u32]) -> Result<Vec<u32>, NoMemory>
         ensures { IfOk result (λ values. values.items ≡ values_of self.now labels.now) }
