@@ -19,5 +19,11 @@ execution_order_kinds-or_set records label = refl
 pub execution_order_kinds-list : IsByExecution kinds.List
 execution_order_kinds-list records label = refl
 
+pub execution_order_kinds-any : IsByExecution kinds.Any
+execution_order_kinds-any records label = refl
+
+pub execution_order_kinds-mv_register : IsByExecution kinds.MvRegister
+execution_order_kinds-mv_register records label = refl
+
 pub execution_order_extends_any_visibility : (kind : Kind) → IsByExecution kind → (records : Records) → extends_visibility records (named_sequence kind records) ≡ true
 execution_order_extends_any_visibility kind by_execution records = execution_order_extends_visibility-labels kind records (by_execution records)

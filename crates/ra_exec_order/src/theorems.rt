@@ -8,11 +8,14 @@ ghost use Rattle.ra_labels.specs.Linearization.{extends_visibility};
 ghost use Rattle.ra_labels.specs.NamedOrder.{named_sequence};
 ghost use Rattle.ra_visibility.specs.Order.{IsByExecution};
 
-/// Theorem: the labels of counters, OR-Sets and lists stand in execution order.
+/// Theorem: the labels of counters, OR-Sets, lists, objects of any type and multi-value registers stand in execution
+/// order.
 pub fn execution_order_kinds()
     ensures counter { IsByExecution Counter }
     ensures or_set { IsByExecution OrSet }
     ensures list { IsByExecution kinds.List }
+    ensures any { IsByExecution kinds.Any }
+    ensures mv_register { IsByExecution kinds.MvRegister }
 {}
 
 /// Theorem: the execution order extends visibility for all records, causal or not.

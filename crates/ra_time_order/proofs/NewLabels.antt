@@ -58,6 +58,10 @@ carrier_updates (op.After anchor x) carries = refl
 carrier_updates (op.RgaRemove x) carries = refl
 carrier_updates (op.RgaRead list) carries = carries
 carrier_updates (op.List operation) carries = absurd (false≢true carries)
+carrier_updates op.AnyUpdate carries = refl
+carrier_updates (op.AnyRead value) carries = carries
+carrier_updates (op.MvWrite value) carries = refl
+carrier_updates (op.MvRead values) carries = carries
 
 stamp_carries : (records : Records) (by : ℕ) (operation : Op) (clock : Option ℕ) (stamp : Stamp)
     → (carries_stamp operation ≡ false → clock ≡ None)

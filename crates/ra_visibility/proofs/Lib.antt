@@ -13,4 +13,7 @@ pub mod Insertions
 pub mod Extensions
 pub mod Precedences
 pub mod NewLabels
+pub mod SeenCounts
+pub mod NewestUpdates
+pub mod NewestLists
 pub mod TheoremIndex

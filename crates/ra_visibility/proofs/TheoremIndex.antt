@@ -21,6 +21,7 @@ pub use Rattle.ra_theorems.proofs.TheoremIndex.{delivery_extends_delivered-order
 pub use Rattle.ra_visibility.proofs.Insertions.{behind_no_greater as new_label_position}
 pub use Rattle.ra_visibility.proofs.NewLabels.{extends_where_it_fits as extends_visibility_iff_label_fits, extends_where_each_fitted as extends_visibility_if_each_fits, delivery_extends as delivery_preserves_order-visibility, join_extends as join_preserves_order-visibility}
 pub use Rattle.ra_theorems.proofs.TheoremIndex.{join_copies_delivered-order as join_preserves_order-order}
+pub use Rattle.ra_visibility.proofs.SeenCounts.{issued-records as issued_matches_records}
 
 -- a test of the count, in terms of the records
 place_and_issuer : (t : Tracked) (past : History) (m : ℕ) (count : ℕ → ℕ) → IsVisibilityOf t past → m < labels_in t

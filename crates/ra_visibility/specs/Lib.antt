@@ -5,4 +5,5 @@ pub mod Least
 pub mod Order
 pub mod Changes
 pub mod Kept
+pub mod Newest
 pub mod Tracker

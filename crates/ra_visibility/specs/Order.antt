@@ -1,5 +1,5 @@
 -- The position of a new label in the named order, and whether it fits there.
-use Rattle.std.specs.Prelude.{◌≡◌, ℕ, ◌<◌, nat_lt, ◌==◌, Bool, true, not, ◌&&◌, ◌||◌, List, [], ◌∷◌, map, drop, Some}
+use Rattle.std.specs.Prelude.{◌≡◌, ℕ, ◌<◌, ◌≤◌, nat_lt, ◌==◌, Bool, true, not, ◌&&◌, ◌||◌, List, [], ◌∷◌, map, drop, Some}
 use Rattle.std.specs.List.{list_all, slice_get}
 use Rattle.ra_labels.specs.declared.kind.Kind.{Kind}
 use Rattle.ra_labels.specs.declared.label.Label.{Label}
@@ -8,7 +8,7 @@ use Rattle.ra_labels.specs.Records.{Records, label_count}
 use Rattle.ra_labels.specs.Visibility.{sees, is_update_at, IsCausal}
 use Rattle.ra_labels.specs.NamedOrder.{lowest_rank, timestamp_of, rank_of, named_labels}
 use Rattle.ra_visibility.specs.declared.order.Place.{Place}
-use Rattle.ra_labels.specs.Places.{issuer_of, issue_position}
+use Rattle.ra_labels.specs.Places.{issuer_of, issue_position, updates_issued}
 use Rattle.ra_labels.specs.HistorySoFar.{History, IsAccepted, NextOperation, next_operation, operate, label_of}
 use Rattle.ra_visibility.specs.Seen.{Seen, is_in, count_in}
 
@@ -36,6 +36,8 @@ pub record ComesNext (past : History) (next : NextOperation) (label : Label) (se
   pub accepted : IsAccepted past (operate next)
   pub becomes : label ≡ label_of past.records next
   pub sees : IsSeenBy (operate next ∷ past.records) (label_count past.records) seen
+  -- of no replica it has more updates than the replica issued
+  pub issued : (of : ℕ) → count_in seen of ≤ updates_issued (operate next ∷ past.records) of
 
 -- `true` if label m must precede label n: n sees it, or it is an earlier one of n's replica
 abbrev pub must_stand_before : Records → Label → Label → Bool

@@ -17,6 +17,7 @@
 mod fault;
 mod last_change;
 mod limits;
+mod newest;
 mod order;
 mod replica;
 mod row;
@@ -28,6 +29,7 @@ mod tracker;
 
 pub use fault::DeliverFault;
 pub use limits::MOST_LABELS;
+pub use newest::newest_updates;
 pub use order::{NamedOrder, Place};
 pub use seen::Seen;
 pub use tracker::Tracker;

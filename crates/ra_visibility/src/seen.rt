@@ -1,8 +1,10 @@
 //! The set of updates that a label sees, represented by counts.
-ghost use Rattle.std.specs.Prelude.{◌≡◌, set};
+ghost use Rattle.std.specs.Prelude.{◌≡◌, set, IfOk};
 ghost use Rattle.ra_visibility.specs.Seen.{is_in, count_in};
 
 use crate::row::Row;
+use ra_labels::NoMemory;
+use std::alloc::Global;
 use std::marker::Model;
 
 /// The set of updates that a label sees. It borrows the tracker.
@@ -50,6 +52,26 @@ impl<'a> Seen<'a> {
             Some(row) => row.is_update && row.place < self.count(row.replica),
             None => false,
         }
+    }
+
+    /// Returns how many updates of each replica the label sees, by the replica's number.
+    ///
+    /// # Errors
+    ///
+    /// `NoMemory` if allocation fails.
+    ///
+    /// # Complexity
+    ///
+    /// O(r), where `r` is the number of replicas.
+    pub fn counts(&self, alloc: Global) -> Result<Vec<u32>, NoMemory>
+        // The result has the count of each replica.
+        ensures { IfOk result (λ counts. counts.items ≡ self.now.counts) }
+    {
+        let mut counts = self.counts.to_vec(alloc)?;
+        if let Some(own) = counts.get_mut(self.replica as usize) {
+            *own = self.own;
+        }
+        Ok(counts)
     }
 
     /// Returns how many updates of this replica the label sees: these are its first ones. Does not allocate.

@@ -13,7 +13,8 @@ ghost use Rattle.ra_visibility.specs.declared.order.Place.{Place};
 ghost use Rattle.ra_visibility.specs.Order.{IsSeenBy, IsPlaceOf, EachFitted};
 ghost use Rattle.ra_visibility.specs.Seen.{count_in};
 ghost use Rattle.ra_visibility.specs.Tracked.{Tracked, IsVisibilityOf, replicas_in, labels_in, delivered_count, seen_in, refusal_in};
-ghost use Rattle.ra_labels.specs.Places.{issuer_of, issue_position};
+ghost use Rattle.ra_labels.specs.Places.{issuer_of, issue_position, updates_issued};
+ghost use Rattle.ra_visibility.specs.Kept.{issued_count};
 ghost use Rattle.ra_labels.specs.Answer.{delivery_refusal_at};
 ghost use Rattle.ra_labels.specs.HistorySoFar.{History, NextOperation, operate, label_of};
 ghost use Rattle.ra_visibility.specs.declared.limits.TheConstants.{MOST_LABELS};
@@ -48,6 +49,12 @@ pub fn delivered_prefix_by_counts()
         → IsVisibilityOf tracked past → replica < replicas_in tracked → m < labels_in tracked
         → has_delivered past.records replica m ≡ (is_update_at past.records m
         && nat_lt (issue_position past.records m) (delivered_count tracked replica (issuer_of past.records m))) }
+{}
+
+/// Theorem: a tracker keeps for each replica as many updates as it issued, and none for one that does not exist.
+pub fn issued_matches_records()
+    ensures { (tracked : Tracked) (past : History) (of : ℕ) → IsVisibilityOf tracked past
+        → issued_count tracked of ≤ updates_issued past.records of }
 {}
 
 /// Theorem: `seen_in`, which `vis` returns, is what the label sees in the sense of the orders.

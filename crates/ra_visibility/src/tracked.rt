@@ -5,6 +5,7 @@ ghost use Rattle.ra_visibility.specs.Tracked.{replicas_in, labels_in, replica_at
 ghost use Rattle.ra_visibility.specs.Least.{lesser_of};
 ghost use Rattle.ra_visibility.specs.Changes.{places_for, nothing_in, with_label, with_delivery, with_joined, without_label, without_delivery, without_joined};
 ghost use Rattle.ra_visibility.specs.Kept.{TrackedKept};
+ghost use Rattle.ra_visibility.specs.Newest.{newest_seen_in};
 
 use crate::limits::MOST_LABELS;
 use crate::replica::Replica;
@@ -132,6 +133,27 @@ impl Tracked {
         let start = row.counts as usize;
         let counts = &self.stored.as_slice()[start..start + row.width as usize];
         Seen::new(self.rows.as_slice(), row.replica, row.place, counts)
+    }
+
+    /// Returns the newest update of the replica that the label sees.
+    pub fn newest_seen(&self, label: u32, replica: u8) -> Option<u32>
+        requires kept { TrackedKept self.now }
+        requires label { label < labels_in self.now }
+        ensures { result ≡ newest_seen_in self.now label replica }
+    {
+        let count = self.vis(label).count(replica);
+        if count == 0 {
+            return None;
+        }
+        Some(self.replicas[replica as usize].issued()[count as usize - 1])
+    }
+
+    /// Returns the replica that issued the label.
+    pub fn issuer(&self, label: u32) -> u8
+        requires { label < labels_in self.now }
+        ensures { result ≡ (row_at self.now label).replica }
+    {
+        self.rows[label as usize].replica
     }
 
     /// Returns the reason to reject the delivery of the label to the replica, if any.

@@ -1,5 +1,5 @@
 //! The tracker: which updates were delivered to replicas and which labels see, with an undo of the last change.
-ghost use Rattle.std.specs.Prelude.{◌≡◌, ℕ, ◌+◌, ◌<◌, ◌≤◌, ◌∷◌, IfOk, IfErr, OnErr, OnOk, IsSome, Option, Some, None};
+ghost use Rattle.std.specs.Prelude.{◌≡◌, ℕ, ◌+◌, ◌<◌, ◌≤◌, ◌∷◌, IfOk, IfErr, OnErr, OnOk, IfSome, IsSome, Option, Some, None};
 ghost use Rattle.ra_labels.specs.Visibility.{is_update, IsCausal};
 ghost use Rattle.ra_labels.specs.declared.kind.Kind.{Kind};
 ghost use Rattle.ra_labels.specs.declared.command.Command.TheVariants.{Deliver as Delivered, Join};
@@ -8,7 +8,9 @@ ghost use Rattle.ra_labels.specs.declared.refusal.Refusal.{Refusal};
 ghost use Rattle.ra_labels.specs.HistorySoFar.{History, empty_history, history_with, NextOperation, operate};
 ghost use Rattle.ra_visibility.specs.declared.fault.DeliverFault.TheVariants.{Refused};
 ghost use Rattle.ra_visibility.specs.Seen.{count_in};
+ghost use Rattle.ra_labels.specs.Places.{issuer_of};
 ghost use Rattle.ra_visibility.specs.Kept.{issued_count};
+ghost use Rattle.ra_visibility.specs.Newest.{IsNewestSeen};
 ghost use Rattle.ra_visibility.specs.Tracked.{replicas_in, labels_in, has_delivered_in, seen_in, refusal_in, IsVisibilityOf};
 
 use crate::fault::DeliverFault;
@@ -128,10 +130,62 @@ impl Tracker {
         // The result is the set of updates that the label sees.
         ensures seen { result ≡ seen_in self.now.now label }
         // The set contains at most as many updates of a replica as the replica issued.
-        ensures issued { (of : ℕ) → of < replicas_in self.now.now
-            → count_in result of ≤ issued_count self.now.now of }
+        ensures issued { (of : ℕ) → count_in result of ≤ issued_count self.now.now of }
     {
         self.tracked.vis(label)
+    }
+
+    /// Returns the number of labels. Does not allocate.
+    pub fn labels(&self) -> u32
+        // The result is the number of labels.
+        ensures { result ≡ labels_in self.now.now }
+    {
+        self.tracked.labels()
+    }
+
+    /// Returns the number of replicas. Does not allocate.
+    pub fn replicas(&self) -> u8
+        // The result is the number of replicas.
+        ensures number { result ≡ replicas_in self.now.now }
+        // Each label was issued by one of these replicas.
+        ensures issuers { (past : History) → IsVisibilityOf self.now.now past
+            → (label : ℕ) → label < labels_in self.now.now → issuer_of past.records label < result }
+    {
+        self.tracked.replicas()
+    }
+
+    /// Returns the replica that issued the label. Does not allocate.
+    ///
+    /// # Complexity
+    ///
+    /// O(1).
+    pub fn issuer(&self, label: u32) -> u8
+        // The label exists.
+        requires { label < labels_in self.now.now }
+        // The replica exists.
+        ensures replica { result < replicas_in self.now.now }
+        // The result is the replica that issued the label.
+        ensures issued { (past : History) → IsVisibilityOf self.now.now past
+            → result ≡ issuer_of past.records label }
+    {
+        self.tracked.issuer(label)
+    }
+
+    /// Returns the newest update of the replica that the label sees, or `None` if it sees none. Does not allocate.
+    ///
+    /// # Complexity
+    ///
+    /// O(1).
+    pub fn newest_seen(&self, label: u32, replica: u8) -> Option<u32>
+        // The label exists.
+        requires { label < labels_in self.now.now }
+        // The result is a label that exists.
+        ensures below { IfSome result (λ newest. newest < labels_in self.now.now) }
+        // The label sees the result, which the replica issued, and no later update of the replica.
+        ensures newest { (past : History) → IsVisibilityOf self.now.now past
+            → IsNewestSeen past.records label replica result }
+    {
+        self.tracked.newest_seen(label, replica)
     }
 
     /// Adds the delivery of the label to the replica. Does not allocate, and never returns `NoMemory`.
