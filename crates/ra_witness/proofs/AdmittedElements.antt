@@ -113,7 +113,7 @@ module _ (all : ElementList) (edits : List (Option Edit)) (records : Records) (a
     other_stands : (other : Label) (t : Stamp) → Contains (labels_of records) other → other.stamp ≡ Some t
         → label_cmp variant.Rga now other own ≡ stamp_cmp t stamp
     other_stands other t there at =
-        stamped_labels_sorted variant.Rga now other own t stamp (λ e. cc (e)) (λ e. cc (e)) (λ e. cc (e)) at own_stamp
+        stamped_labels_sorted variant.Rga now other own t stamp (inr (inr refl)) at own_stamp
         (λ same.
         let one = offered.stamps other own stamp (behind_head own (labels_of records) other there)
         (at_head own (labels_of records) own refl) (at ∙ ap Some same) own_stamp in

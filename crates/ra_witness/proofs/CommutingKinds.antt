@@ -8,7 +8,8 @@ use Rattle.ra_labels.specs.declared.kind.Kind.TheVariants as variant
 use Rattle.ra_labels.specs.declared.operation.Update.{Update}
 use Rattle.ra_labels.specs.declared.label.Label.{Label}
 use Rattle.ra_labels.specs.declared.command.Command.TheVariants.{Deliver}
-use Rattle.ra_labels.specs.Records.{label_count, stamp_at}
+use Rattle.ra_labels.specs.Explained.{is_explained}
+use Rattle.ra_labels.specs.Records.{Records, label_count, stamp_at}
 use Rattle.ra_labels.specs.Rewriting.{Half, Act, acts_of}
 use Rattle.ra_labels.specs.Specification.{State}
 use Rattle.ra_labels.specs.Fault.{Holds, sequence_cause}
@@ -19,6 +20,8 @@ use Rattle.ra_witness.specs.declared.commuting.Commuting as commuting
 use Rattle.ra_witness.specs.declared.overriding.Overriding as overriding
 use Rattle.ra_witness.specs.declared.rga.Rga as rga
 use Rattle.ra_witness.specs.declared.kept_list.KeptList as kept_list
+use Rattle.ra_unordered.specs.declared.unordered.Unordered as unordered
+use Rattle.ra_unordered.specs.Unordered.{IsKeptOf}
 use Rattle.ra_witness.specs.declared.effects.Effects.{Effects}
 use Rattle.ra_witness.specs.declared.effects.Effects.TheVariants.{Commuting, Overriding, Rga}
 use Rattle.ra_witness.specs.declared.effects.Effects.TheVariants as form
@@ -52,6 +55,9 @@ module _ (k : Effects) (past : History) (stands : AreEffectsOf k past) where
   pub is_list : (kept : kept_list.KeptList) → k ≡ form.List kept → (past.kind ≡ variant.List) × IsListOf kept past.initial_replicas past.records
   is_list kept is = subst (λ x. AreEffectsOfForm x past) is stands.form
 
+  pub is_unordered : (kept : unordered.Unordered) → k ≡ form.Unordered kept → IsKeptOf kept past
+  is_unordered kept is = subst (λ x. AreEffectsOfForm x past) is stands.form
+
   pub is_rga : (kept : rga.Rga) → k ≡ Rga kept → (past.kind ≡ variant.Rga) × IsRgaOf kept past.initial_replicas past.records
   is_rga kept is = subst (λ x. AreEffectsOfForm x past) is stands.form
 
@@ -63,9 +69,16 @@ pub not_rga-overriding : (kind : Kind) → (kind ≡ variant.Register) ⊎ (kind
 not_rga-overriding kind (inl is) rga = let e : variant.Register ≡ variant.Rga = sym is ∙ rga in cc (e)
 not_rga-overriding kind (inr is) rga = let e : variant.LwwSet ≡ variant.Rga = sym is ∙ rga in cc (e)
 
-pub not_list-commuting : (kind : Kind) → (kind ≡ variant.Counter) ⊎ (kind ≡ variant.OrSet) → ¬ (kind ≡ variant.List)
-not_list-commuting kind (inl is) other = let e : variant.Counter ≡ variant.List = sym is ∙ other in cc (e)
-not_list-commuting kind (inr is) other = let e : variant.OrSet ≡ variant.List = sym is ∙ other in cc (e)
+-- these kinds have no condition on the records as a whole
+pub explained-commuting : (kind : Kind) (records : Records) → (kind ≡ variant.Counter) ⊎ (kind ≡ variant.OrSet)
+    → is_explained kind records ≡ true
+explained-commuting kind records (inl is) = ap (λ k. is_explained k records) is
+explained-commuting kind records (inr is) = ap (λ k. is_explained k records) is
+
+pub explained-overriding : (kind : Kind) (records : Records) → (kind ≡ variant.Register) ⊎ (kind ≡ variant.LwwSet)
+    → is_explained kind records ≡ true
+explained-overriding kind records (inl is) = ap (λ k. is_explained k records) is
+explained-overriding kind records (inr is) = ap (λ k. is_explained k records) is
 
 pub not_list-overriding : (kind : Kind) → (kind ≡ variant.Register) ⊎ (kind ≡ variant.LwwSet) → ¬ (kind ≡ variant.List)
 not_list-overriding kind (inl is) other = let e : variant.Register ≡ variant.List = sym is ∙ other in cc (e)
@@ -82,10 +95,6 @@ admits-overriding kind (inr is) = ap admits_all is
 pub not_or_set-overriding : (kind : Kind) → (kind ≡ variant.Register) ⊎ (kind ≡ variant.LwwSet) → ¬ (kind ≡ variant.OrSet)
 not_or_set-overriding kind (inl is) other = let e : variant.Register ≡ variant.OrSet = sym is ∙ other in cc (e)
 not_or_set-overriding kind (inr is) other = let e : variant.LwwSet ≡ variant.OrSet = sym is ∙ other in cc (e)
-
-pub not_counter-overriding : (kind : Kind) → (kind ≡ variant.Register) ⊎ (kind ≡ variant.LwwSet) → ¬ (kind ≡ variant.Counter)
-not_counter-overriding kind (inl is) other = let e : variant.Register ≡ variant.Counter = sym is ∙ other in cc (e)
-not_counter-overriding kind (inr is) other = let e : variant.LwwSet ≡ variant.Counter = sym is ∙ other in cc (e)
 
 module _ (updates : List (Option Update)) (states : List State) (past : History) (kept : AreStatesOf updates states past) where
   -- the cause at the label is that of its queries on the state of its replica
@@ -177,12 +186,16 @@ can_tell kept past to n few stands told =
     can_step kept.updates.items kept.states.items (history_with past (Deliver to n)) to (update_at kept.updates.items n)
     (states_told kept.updates.items kept.states.items past stands.states to n stands.one told) (omega (arith, stands.states.replicas, told.replica)) few
 
+written_kind : {kind other : Kind} → (kind ≡ variant.Register) ⊎ (kind ≡ variant.LwwSet) → other ≡ kind
+    → (other ≡ variant.Register) ⊎ (other ≡ variant.LwwSet)
+written_kind (inl is) of = inl (of ∙ is)
+written_kind (inr is) of = inr (of ∙ is)
+
 -- a label of a register or an LWW set that is an update has a stamp
 pub stamp_missing : (past : History) (next : NextOperation) (label : Label) (u : Update)
     → (past.kind ≡ variant.Register) ⊎ (past.kind ≡ variant.LwwSet) → IsOffered past next label → update_in next.op ≡ Some u → label.stamp ≡ None → ⊥
 stamp_missing past next label u one offered does none =
     let of = of_its_kind past next label offered in
-    let carries = writes_are_stamped next.op u (λ is. not_counter-overriding past.kind one (sym of ∙ is)) (λ is. not_or_set-overriding past.kind one (sym of ∙ is)) (λ is. not_rga-overriding past.kind one (sym of ∙ is))
-    (λ is. not_list-overriding past.kind one (sym of ∙ is)) does in
+    let carries = writes_are_stamped next.op u (written_kind one of) does in
     let (at, is, least, stamped) = has_stamp past next label offered carries in
     none-some (stamp_at next.by at) (sym none ∙ stamped)

@@ -128,6 +128,8 @@ acts_there x (TakeOut y ids) is = absurd (none-some x is)
 acts_there x (After anchor y) is = absurd (none-some x is)
 acts_there x (RgaRemove y) is = absurd (none-some x is)
 acts_there x (made.List change) is = absurd (none-some x is)
+acts_there x made.AnyUpdate is = absurd (none-some x is)
+acts_there x (made.MvWrite value) is = absurd (none-some x is)
 
 there_acts : (x : ℕ) (u : Update) → acts_on x u ≡ true → element_of u ≡ Some x
 there_acts x (LwwAdd y) is = ap Some (sym (eqb-true x y is))

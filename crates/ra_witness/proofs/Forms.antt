@@ -1,11 +1,10 @@
 -- Lemmas on what the form of an accepted operation implies.
-use Rattle.std.proofs.Common.{◌≡◌, ℕ, ◌≤◌, true, Some, refl, ap, ◌∙◌}
-use Rattle.std.specs.Prelude.{option_map}
+use Rattle.std.proofs.Common.{◌≡◌, ℕ, ◌≤◌, true, Some, refl, ap, ◌∙◌, inl, inr}
+use Rattle.std.specs.Prelude.{◌⊎◌, option_map}
 use Rattle.std.specs.List.{list_all}
 use Rattle.std.proofs.lemmas.Bool.{and_from}
 use Rattle.std.proofs.lemmas.Option.{none-some}
-use Rattle.ra_labels.specs.declared.kind.Kind.TheVariants.{Counter, OrSet, Rga}
-use Rattle.ra_labels.specs.declared.kind.Kind.TheVariants as kinds
+use Rattle.ra_labels.specs.declared.kind.Kind.TheVariants.{Register, LwwSet}
 use Rattle.ra_labels.specs.declared.operation.Op.{Op}
 use Rattle.ra_labels.specs.declared.operation.Op.TheVariants as op
 use Rattle.ra_labels.specs.declared.list_operation.ListOp.TheVariants as list
@@ -42,6 +41,10 @@ asks_only_rising (op.List (list.Insert insertion)) rising = refl
 asks_only_rising (op.List (list.Remove x)) rising = refl
 asks_only_rising (op.List (list.Read elements)) rising = refl
 asks_only_rising (op.List (list.Part elements)) rising = refl
+asks_only_rising op.AnyUpdate rising = refl
+asks_only_rising (op.AnyRead value) rising = refl
+asks_only_rising (op.MvWrite value) rising = refl
+asks_only_rising (op.MvRead values) rising = refl
 
 module _ (past : History) (next : NextOperation) (label : Label) (offered : IsOffered past next label) where
   pub of_its_kind : kind_of next.op ≡ past.kind
@@ -69,20 +72,11 @@ module _ (past : History) (next : NextOperation) (label : Label) (offered : IsOf
       (at, is, least, ap (λ (l : Label). l.stamp) offered.becomes ∙ ap (option_map (stamp_at next.by)) is)
 
 -- the update of a register or an LWW set carries a stamp
-pub writes_are_stamped : (operation : Op) (u : Update) → ¬ (kind_of operation ≡ Counter) → ¬ (kind_of operation ≡ OrSet) → ¬ (kind_of operation ≡ Rga)
-    → ¬ (kind_of operation ≡ kinds.List) → update_in operation ≡ Some u → carries_stamp operation ≡ true
-writes_are_stamped op.Inc u counter or_set rga list is = absurd (counter refl)
-writes_are_stamped op.Dec u counter or_set rga list is = absurd (counter refl)
-writes_are_stamped (op.Count v) u counter or_set rga list is = absurd (counter refl)
-writes_are_stamped (op.Write value) u counter or_set rga list is = refl
-writes_are_stamped (op.Last value) u counter or_set rga list is = absurd (none-some u is)
-writes_are_stamped (op.LwwAdd x) u counter or_set rga list is = refl
-writes_are_stamped (op.LwwRemove x) u counter or_set rga list is = refl
-writes_are_stamped (op.LwwRead elements) u counter or_set rga list is = absurd (none-some u is)
-writes_are_stamped (op.OrAdd x id) u counter or_set rga list is = absurd (or_set refl)
-writes_are_stamped (op.OrRemove x ids) u counter or_set rga list is = absurd (or_set refl)
-writes_are_stamped (op.OrRead elements) u counter or_set rga list is = absurd (or_set refl)
-writes_are_stamped (op.After anchor x) u counter or_set rga list is = absurd (rga refl)
-writes_are_stamped (op.RgaRemove x) u counter or_set rga list is = absurd (rga refl)
-writes_are_stamped (op.RgaRead elements) u counter or_set rga list is = absurd (rga refl)
-writes_are_stamped (op.List operation) u counter or_set rga list is = absurd (list refl)
+pub writes_are_stamped : (operation : Op) (u : Update) → (kind_of operation ≡ Register) ⊎ (kind_of operation ≡ LwwSet)
+    → update_in operation ≡ Some u → carries_stamp operation ≡ true
+writes_are_stamped (op.Write value) u one is = refl
+writes_are_stamped (op.Last value) u one is = absurd (none-some u is)
+writes_are_stamped (op.LwwAdd x) u one is = refl
+writes_are_stamped (op.LwwRemove x) u one is = refl
+writes_are_stamped (op.LwwRead elements) u one is = absurd (none-some u is)
+writes_are_stamped _ u one is = elim one [ inl wrong ↦ absurd (cc wrong) | inr wrong ↦ absurd (cc wrong) ]

@@ -14,10 +14,12 @@ pub mod TakenLists
 pub mod ListStates
 pub mod ListCauses
 pub mod TakenOperations
+pub mod TakenUnordered
 pub mod KeptLists
 pub mod NumberedChanges
 pub mod NeededChanges
 pub mod TakenDeliveries
+pub mod Failures
 pub mod OfferedLabels
 pub mod Range
 pub mod Forms

@@ -132,7 +132,7 @@ module _ (all grown : ElementList) (edits : List (Option Edit)) (records : Recor
       let (n, as_number) = its_number all edits records are other behind y there does in
       let t = (arrival_at all.arrivals n).stamp in
       let stands : label_cmp variant.Rga now own other ≡ stamp_cmp stamp t =
-      stamped_labels_sorted variant.Rga now own other stamp t (λ e. cc (e)) (λ e. cc (e)) (λ e. cc (e)) stamped as_number.stamp (λ same.
+      stamped_labels_sorted variant.Rga now own other stamp t (inr (inr refl)) stamped as_number.stamp (λ same.
       let one = stamps own other stamp (at_head own (labels_of records) own refl) (behind_head own (labels_of records) other there) stamped (as_number.stamp ∙ ap Some (sym same)) in
       let its : label_count records ≡ other.number = ap (λ (l : Label). l.number) one in
       let lower = label_below records other there in

@@ -11,7 +11,7 @@ use Rattle.ra_labels.specs.declared.label.Label.{Label}
 use Rattle.ra_labels.specs.Records.{Records, label_count, labels_of, stamp_at}
 use Rattle.ra_labels.specs.Visibility.{is_update}
 use Rattle.ra_labels.specs.Rewriting.{updates_of}
-use Rattle.ra_labels.specs.Specification.{State, Number, Written, Members, Pairs, Listed, Listing, state_after}
+use Rattle.ra_labels.specs.Specification.{State, Number, Written, Members, Pairs, Listed, Listing, OfAny, OfMvRegister, state_after}
 use Rattle.ra_labels.specs.Lists.{hide}
 use Rattle.ra_labels.specs.NamedOrder.{named_sequence}
 use Rattle.ra_labels.specs.Linearization.{updates_admitted}
@@ -160,6 +160,8 @@ leads_to_list us (Written last) led = absurd (let e = state_kind variant.Rga us 
 leads_to_list us (Members xs) led = absurd (let e = state_kind variant.Rga us (Members xs) led in cc (e))
 leads_to_list us (Pairs pairs) led = absurd (let e = state_kind variant.Rga us (Pairs pairs) led in cc (e))
 leads_to_list us (Listing list) led = absurd (let e = state_kind variant.Rga us (Listing list) led in cc (e))
+leads_to_list us OfAny led = absurd (let e = state_kind variant.Rga us OfAny led in cc (e))
+leads_to_list us OfMvRegister led = absurd (let e = state_kind variant.Rga us OfMvRegister led in cc (e))
 
 pub list_after : (records : Records) → updates_admitted variant.Rga (named_sequence variant.Rga records) ≡ true
     → (list : List (ℕ × Bool)) × (state_after variant.Rga (updates_of (named_sequence variant.Rga records)) ≡ Some (Listed list))

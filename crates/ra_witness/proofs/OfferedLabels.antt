@@ -22,7 +22,7 @@ use Rattle.ra_labels.specs.Rewriting.{Half, Act, acts_of}
 use Rattle.ra_labels.specs.Linearization.{extends_visibility, updates_admitted, queries_admitted}
 use Rattle.ra_labels.specs.NamedOrder.{named_labels, named_sequence, rank_of}
 use Rattle.ra_labels.specs.Fault.{fault_of, fault_at, sequence_cause, cause_of}
-use Rattle.ra_labels.specs.ListHistory.{keeps_an_order}
+use Rattle.ra_labels.specs.Explained.{is_explained, unexplained_cause}
 use Rattle.ra_labels.specs.Answer.{refusal_of, records_after, with_accepted}
 use Rattle.ra_labels.proofs.Counted.{labels_counted}
 use Rattle.ra_labels.specs.HistorySoFar.{History, replicas_of, history_with, IsAccepted, NextOperation, operate, label_of}
@@ -91,17 +91,6 @@ not_for_order kind records why is list order =
     no_order (updates_admitted kind (named_sequence kind records)) (queries_admitted kind records (named_sequence kind records))
     (rw (list_extends kind records list) at (ap Some (sym order) ∙ is))
 
-module _ (kind : Kind) (records : Records) (failure : Failure) where
-  -- a failure without a cycle, which is none for the order of a list
-  pub shown_by_none : failure.cycle ≡ None → (kind ≡ kinds.List → ¬ (failure.cause ≡ cause.Order))
-      → ShowsCycle kind records failure.cause failure.cycle
-  shown_by_none none never = subst (ShowsCycle kind records failure.cause) (sym none) never
-
-  -- a failure with a cycle
-  pub shown_by_it : (cycle : global.Vec Edge) → failure.cause ≡ cause.Order → failure.cycle ≡ Some cycle
-      → IsCycleIn kind records cycle.items → ShowsCycle kind records failure.cause failure.cycle
-  shown_by_it cycle order some closed = subst (ShowsCycle kind records failure.cause) (sym some) (order, closed)
-
 -- a command that is not refused is recorded
 accepted_after : (past : History) (command : Command) → fault_of past.kind past.records ≡ None → IsAccepted past command
     → records_after past.kind past.initial_replicas past.records command ≡ with_accepted past.records command
@@ -130,15 +119,16 @@ update_known o acts op listed is = first_listed o ∙ ap head_of listed ∙ ap (
 pub all_admitted : (kind : Kind) (records : Records) → None ≡ sequence_cause kind records → updates_admitted kind (named_sequence kind records) ≡ true
 all_admitted kind records because = ((sequence_cause_none_iff kind records).0 (sym because)).1
 
--- the cause is the condition that the named sequence fails, else the order if no order explains the elements of a list
+-- the cause is the condition that the named sequence fails, else that of the kind if the records do not meet it
 pub cause_in_sequence : (kind : Kind) (records : Records) (why : Cause) → Some why ≡ sequence_cause kind records → Some why ≡ cause_of kind records
 cause_in_sequence kind records why is =
-    ap (λ o. option_or o (cond (keeps_an_order kind records) None (Some cause.Order))) is
+    ap (λ o. option_or o (cond (is_explained kind records) None (Some (unexplained_cause kind)))) is
 
-pub cause_of_elements : (kind : Kind) (records : Records) (keeps : Bool) → None ≡ sequence_cause kind records → keeps_an_order kind records ≡ keeps
-    → cond keeps None (Some cause.Order) ≡ cause_of kind records
-cause_of_elements kind records keeps is known =
-    sym (ap (λ b. cond b None (Some cause.Order)) known) ∙ ap (λ o. option_or o (cond (keeps_an_order kind records) None (Some cause.Order))) is
+pub cause_of_kind : (kind : Kind) (records : Records) (explained : Bool) → None ≡ sequence_cause kind records → is_explained kind records ≡ explained
+    → cond explained None (Some (unexplained_cause kind)) ≡ cause_of kind records
+cause_of_kind kind records explained is known =
+    sym (ap (λ b. cond b None (Some (unexplained_cause kind))) known)
+    ∙ ap (λ o. option_or o (cond (is_explained kind records) None (Some (unexplained_cause kind)))) is
 
 -- what holds of a case of a result
 module _ {A E : Type 0} (P : A → Type 0) (Q : E → Type 0) (r : Result A E) where

@@ -13,7 +13,7 @@ use Rattle.ra_labels.specs.declared.label.Label.{Label}
 use Rattle.ra_labels.specs.Records.{Records, label_count, labels_of}
 use Rattle.ra_labels.specs.Visibility.{has_delivered}
 use Rattle.ra_labels.specs.Rewriting.{Half, Act, Does, Asks, Part, acts_of, part_of, parts_of, update_of, updates_of}
-use Rattle.ra_labels.specs.Specification.{State, Number, Written, Members, Pairs, Listed, Listing, step_of, state_after}
+use Rattle.ra_labels.specs.Specification.{State, Number, Written, Members, Pairs, Listed, Listing, OfAny, OfMvRegister, step_of, state_after}
 use Rattle.ra_labels.specs.NamedOrder.{named_labels}
 use Rattle.ra_labels.specs.Insertion.{delivered_updates}
 use Rattle.ra_labels.proofs.Counted.{labels_counted}
@@ -90,6 +90,8 @@ in_range kind us (Members xs) led few = tt
 in_range kind us (Pairs pairs) led few = tt
 in_range kind us (Listed list) led few = tt
 in_range kind us (Listing list) led few = tt
+in_range kind us OfAny led few = tt
+in_range kind us OfMvRegister led few = tt
 
 -- the first of the updates delivered to a replica lead to a number in range as well
 pub first_in_range : (kind : Kind) (records : Records) (replica : ℕ) (first later : List Update) (s : State) → label_count records ≤ 1048576

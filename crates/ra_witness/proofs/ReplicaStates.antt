@@ -10,13 +10,13 @@ use Rattle.ra_labels.specs.declared.kind.Kind.{Kind}
 use Rattle.ra_labels.specs.declared.kind.Kind.TheVariants.{Counter, OrSet}
 use Rattle.ra_labels.specs.declared.operation.Op.{Op}
 use Rattle.ra_labels.specs.declared.operation.Update.{Update}
-use Rattle.ra_labels.specs.declared.operation.Update.TheVariants.{Inc, Dec, Write, LwwAdd, LwwRemove, OrAdd, TakeOut}
+use Rattle.ra_labels.specs.declared.operation.Update.TheVariants.{Inc, Dec, Write, LwwAdd, LwwRemove, OrAdd, TakeOut, AnyUpdate, MvWrite}
 use Rattle.ra_labels.specs.declared.label.Label.{Label}
 use Rattle.ra_labels.specs.declared.command.Command.TheVariants.{Deliver}
 use Rattle.ra_labels.specs.Records.{Records, labels_of}
 use Rattle.ra_labels.specs.Visibility.{is_update_at, has_delivered, IsCausal}
 use Rattle.ra_labels.specs.Rewriting.{Half, Act, Does, Asks, acts_of, part_of, parts_of, update_of, updates_of}
-use Rattle.ra_labels.specs.Specification.{State, Number, Written, Members, Pairs, Listed, Listing, step_of, state_after}
+use Rattle.ra_labels.specs.Specification.{State, Number, Written, Members, Pairs, Listed, Listing, OfAny, OfMvRegister, step_of, state_after}
 use Rattle.ra_labels.specs.Linearization.{extends_visibility}
 use Rattle.ra_labels.specs.NamedOrder.{named_labels, named_sequence}
 use Rattle.ra_labels.specs.Fault.{Holds}
@@ -44,6 +44,8 @@ steps_on (Members xs) (LwwAdd x) is admits = refl
 steps_on (Members xs) (LwwRemove x) is admits = refl
 steps_on (Pairs pairs) (OrAdd x id) is admits = refl
 steps_on (Pairs pairs) (TakeOut x ids) is admits = refl
+steps_on OfAny AnyUpdate is admits = refl
+steps_on OfMvRegister (MvWrite value) is admits = refl
 steps_on (Listed list) u is admits = absurd (false≢true admits)
 steps_on (Listing list) u is admits = absurd (false≢true admits)
 steps_on s u is admits = absurd (false≢true is)

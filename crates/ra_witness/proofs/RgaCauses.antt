@@ -51,6 +51,10 @@ asks_only (ops.After anchor x) after removes of = absurd (after anchor x refl)
 asks_only (ops.RgaRemove x) after removes of = absurd (removes x refl)
 asks_only (ops.RgaRead list) after removes of = refl
 asks_only (ops.List operation) after removes of = absurd (cc (of))
+asks_only ops.AnyUpdate after removes of = absurd (cc (of))
+asks_only (ops.AnyRead value) after removes of = refl
+asks_only (ops.MvWrite value) after removes of = absurd (cc (of))
+asks_only (ops.MvRead values) after removes of = refl
 
 either_cause : (a b : Bool) → b ≡ a → cond b None (Some cause.Update) ≡ cond (not a) (Some cause.Update) None
 either_cause true b same = ap (λ c. cond c None (Some cause.Update)) same

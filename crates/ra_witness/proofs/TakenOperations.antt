@@ -17,7 +17,8 @@ use Rattle.ra_labels.specs.declared.operation.Update.TheVariants as updates
 use Rattle.ra_labels.specs.declared.label.Label.{Label}
 use Rattle.ra_labels.specs.declared.reply.Cause.TheVariants as cause
 use Rattle.ra_labels.specs.Records.{Records, label_count}
-use Rattle.ra_labels.specs.ListHistory.{inserted_by, edges_required_by, inserted_elements, required_edges, keeps_an_order}
+use Rattle.ra_labels.specs.Explained.{is_explained}
+use Rattle.ra_labels.specs.ListHistory.{inserted_by, edges_required_by, inserted_elements, required_edges}
 use Rattle.ra_labels.specs.Edges.{EachOnce, Extends, IsCycle}
 use Rattle.ra_labels.specs.Reads.{edges_of_read}
 use Rattle.ra_labels.specs.Neighborhood.{named, neighborhood}
@@ -299,7 +300,7 @@ module _ (past : Past) (initial_replicas : ℕ) (records : Records) (next : Next
     -- an order that extends the edges and has the elements explains them
     pub explained : (order : List ℕ) → EachOnce order → Extends order (past.edges ++ its.edges_of label.number operation)
         → ((x : ℕ) → Contains (after_update past.whole change).inserted x → Contains order x)
-        → keeps_an_order kinds.List now ≡ true
+        → is_explained kinds.List now ≡ true
     explained order once extends all =
         ap is_some (list_order_there order (inserted_elements now) (required_edges now) once
         (subst (Extends order) edges_now extends) (λ x there. all x ((inserted_now x).1 there))).1
@@ -311,7 +312,7 @@ module _ (past : Past) (initial_replicas : ℕ) (records : Records) (next : Next
 
     -- a cycle of the edges leaves no order
     pub unexplained : (cycle : List Edge) → IsCycle (past.edges ++ its.edges_of label.number operation) cycle
-        → keeps_an_order kinds.List now ≡ false
+        → is_explained kinds.List now ≡ false
     unexplained cycle closed =
         ap is_some (no_list_order (required_edges now) cycle (cycle_now cycle closed) (inserted_elements now)
         (λ edge there. (inserted_now edge.before).0 (begins_now edge (closed.among edge there))))

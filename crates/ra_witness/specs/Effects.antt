@@ -10,6 +10,9 @@ use Rattle.ra_labels.specs.Linearization.{updates_admitted}
 use Rattle.ra_labels.specs.NamedOrder.{named_sequence}
 use Rattle.ra_labels.specs.HistorySoFar.{History, replicas_of, NextOperation, operate}
 use Rattle.ra_visibility.specs.declared.limits.TheConstants.{MOST_LABELS}
+use Rattle.ra_visibility.specs.Order.{ComesNext}
+use Rattle.ra_visibility.specs.Seen.{Seen}
+use Rattle.ra_unordered.specs.Unordered.{IsKeptOf}
 use Rattle.ra_witness.specs.declared.commuting.Commuting as commuting
 use Rattle.ra_witness.specs.declared.overriding.Overriding as overriding
 use Rattle.ra_witness.specs.declared.effects.Found.{Found}
@@ -47,6 +50,7 @@ AreEffectsOfForm (Overriding kept) past = IsOverridingOf kept past
 AreEffectsOfForm (Rga kept) past = (past.kind ≡ variant.Rga) × IsRgaOf kept past.initial_replicas past.records
 AreEffectsOfForm (form.List kept) past = (past.kind ≡ variant.List)
     × list.IsListOf kept past.initial_replicas past.records
+AreEffectsOfForm (form.Unordered kept) past = IsKeptOf kept past
 
 pub record AreEffectsOf (kept : Effects) (past : History) : Type 0 where
   pub few : label_count past.records ≤ MOST_LABELS
@@ -58,6 +62,7 @@ IsFoundIn (Commuting kept) label found = Unit {0}
 IsFoundIn (Overriding kept) label found = Unit {0}
 IsFoundIn (Rga kept) label (InRga found) = IsFoundFor kept label found
 IsFoundIn (form.List kept) label (InList found) = list.IsFoundFor kept label found
+IsFoundIn (form.Unordered kept) label found = Unit {0}
 IsFoundIn _ label found = ⊥
 
 -- holds if, after some past that the structure represents, the label is offered and has these acts
@@ -68,13 +73,14 @@ pub record MayMeet (kept : Effects) (label : Label) (acts : List (Half × Act)) 
   pub offered : IsOffered past next label
   pub acts_are : acts ≡ acts_of next.op
 
--- Holds if, after some past that the structure represents, the label is offered, the updates of all labels are admitted
--- with it, and `update` is its update, if it has one.
-pub record MayAdd (kept : Effects) (label : Label) (update : Option Update) : Type 0 where
+-- Holds if, after some past that the structure represents, the label is offered with what it sees, the updates of all
+-- labels are admitted with it, and `update` is its update, if it has one.
+pub record MayAdd (kept : Effects) (label : Label) (seen : Seen) (update : Option Update) : Type 0 where
   pub past : History
   pub next : NextOperation
   pub stands : AreEffectsOf kept past
   pub offered : IsOffered past next label
+  pub comes : ComesNext past next label seen
   pub admitted : updates_admitted past.kind (named_sequence past.kind (operate next ∷ past.records)) ≡ true
   pub update_is : update ≡ update_in next.op
 

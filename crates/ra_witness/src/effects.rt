@@ -1,5 +1,5 @@
 //! The effects of labels and the states of replicas, represented by how a kind treats late updates.
-ghost use Rattle.std.specs.Prelude.{◌≡◌, ℕ, ◌+◌, ◌≤◌, ◌++◌, ◌∷◌, true, false, List, length, None, IfOk, OnOk, OnErr, MatchOption, MatchResult};
+ghost use Rattle.std.specs.Prelude.{◌≡◌, ℕ, ◌+◌, ◌≤◌, ◌++◌, ◌∷◌, true, false, List, length, None, IfOk, OnOk, OnErr, MatchOption, MatchResult, if◌then◌else◌};
 ghost use Rattle.std.specs.Result.{result_err};
 ghost use Rattle.std.specs.List.{slice_get};
 ghost use Rattle.std.specs.Option.{option_to_list};
@@ -12,7 +12,7 @@ ghost use Rattle.ra_labels.specs.Rewriting.{acts_of};
 ghost use Rattle.ra_labels.specs.NamedOrder.{named_labels, named_sequence};
 ghost use Rattle.ra_labels.specs.Linearization.{updates_admitted};
 ghost use Rattle.ra_labels.specs.Fault.{sequence_cause};
-ghost use Rattle.ra_labels.specs.ListHistory.{keeps_an_order};
+ghost use Rattle.ra_labels.specs.Explained.{is_explained};
 ghost use Rattle.ra_labels.specs.TheoremTerms.{EachLabelIsWellFormed};
 ghost use Rattle.ra_labels.specs.Specification.{is_admitted};
 ghost use Rattle.ra_labels.specs.Insertion.{updates_among, delivered_updates};
@@ -21,19 +21,25 @@ ghost use Rattle.ra_rewrite.specs.Parts.{acts_in};
 ghost use Rattle.ra_witness.specs.Labels.{update_in, updates_in, updates_by_number};
 ghost use Rattle.ra_witness.specs.States.{steps_of};
 ghost use Rattle.ra_witness.specs.Settled.{SettlesMore};
-ghost use Rattle.ra_witness.specs.Failure.{IsCycleIn};
+ghost use Rattle.ra_visibility.specs.Order.{ComesNext};
+ghost use Rattle.ra_unordered.specs.Unordered as may_be;
+ghost use Rattle.ra_unordered.specs.Unordered.{IsKeptOf, IsNext};
+ghost use Rattle.ra_witness.specs.Failure.{IsUnexplained};
 ghost use Rattle.ra_witness.specs.ListOrder.{Explains};
 ghost use Rattle.ra_witness.specs.Sequence.{has_query_half};
 ghost use Rattle.ra_witness.specs.Offered.{IsOffered, IsDelivered, IsJoinedFrom};
 ghost use Rattle.ra_witness.specs.Effects.{AreEffectsOf, IsOverridingOf, IsFoundIn, MayMeet, MayAdd, MayWrite, MayDeliver, MayJoinFrom};
 
 use crate::commuting::Commuting;
+use crate::failure::Failure;
 use crate::kept_list::KeptList;
 use crate::overriding::Overriding;
 use crate::rga::{self, Rga};
-use ra_labels::{Cause, Edge, Kind, Label, NoMemory, Update};
+use ra_labels::{Cause, Kind, Label, NoMemory, Update};
 use ra_list_effects::Found as FoundInList;
 use ra_rewrite::Parts;
+use ra_unordered::Unordered;
+use ra_visibility::Seen;
 use std::alloc::Global;
 
 /// The effects of labels and the states of replicas, by how the kind treats late updates.
@@ -47,6 +53,8 @@ pub enum Effects {
     Rga(Rga),
     /// List: a late update has the effect of the last one, and one order of the elements is kept.
     List(KeptList),
+    /// Any type and multi-value register: no update is applied, and reads are judged by what they see.
+    Unordered(Unordered),
 }
 
 /// What a label names, by number, so that nothing is looked up again when the label is added.
@@ -87,6 +95,9 @@ impl Effects {
             )?)),
             Kind::Rga => Ok(Effects::Rga(Rga::new(alloc, replicas)?)),
             Kind::List => Ok(Effects::List(KeptList::new(alloc, replicas)?)),
+            Kind::Any | Kind::MvRegister => Ok(Effects::Unordered(Unordered::new(
+                alloc, kind, replicas,
+            )?)),
         }
     }
 
@@ -144,12 +155,13 @@ impl Effects {
                 Ok(found) => Ok(Ok(Found::InList(found))),
                 Err(cause) => Ok(Err(cause)),
             },
+            Effects::Unordered(_) => Ok(Ok(Found::Nothing)),
         }
     }
 
-    /// Adds the next label, with what its test found, and returns the number of steps, at most 1. If no order of the
-    /// elements of a list explains it with the label, returns a cycle of the edges that the labels require, and the
-    /// same history is represented.
+    /// Adds the next label, with what it sees and what its test found, and returns the number of steps, at most 1. If
+    /// the records with it do not meet the condition of their kind, returns this failure, for a list with a cycle of
+    /// the edges that the labels require, and the same history is represented.
     ///
     /// # Errors
     ///
@@ -157,20 +169,20 @@ impl Effects {
     pub fn add(
         &mut self,
         label: &Label,
+        seen: &Seen<'_>,
         admitted: Admitted,
-    ) -> Result<Result<u64, Vec<Edge>>, NoMemory>
-        requires may { MayAdd self.old label.now admitted.update }
+    ) -> Result<Result<u64, Failure>, NoMemory>
+        requires may { MayAdd self.old label.now seen.now admitted.update }
         requires found { IsFoundIn self.old label.now admitted.found }
         ensures taken { (past : History) (next : NextOperation) → AreEffectsOf self.old past
             → IsOffered past next label.now
+            → ComesNext past next label.now seen.now
             → sequence_cause past.kind (operate next ∷ past.records) ≡ None
             → admitted.update ≡ update_in next.op
             → IfOk result (λ added. MatchResult added
             (λ steps. AreEffectsOf self.new (history_with past (operate next))
-            × (keeps_an_order past.kind (operate next ∷ past.records) ≡ true))
-            (λ cycle. AreEffectsOf self.new past
-            × (keeps_an_order past.kind (operate next ∷ past.records) ≡ false)
-            × IsCycleIn past.kind (operate next ∷ past.records) cycle.items)) }
+            × (is_explained past.kind (operate next ∷ past.records) ≡ true))
+            (λ failure. AreEffectsOf self.new past × IsUnexplained past.kind (operate next ∷ past.records) failure)) }
         ensures unchanged { (past : History) → AreEffectsOf self.old past
             → IfOk result (λ added. OnErr added (AreEffectsOf self.new past)) }
         ensures step { IfOk result (λ added. IfOk added (λ steps. steps ≤ 1)) }
@@ -195,6 +207,7 @@ impl Effects {
                 Found::InList(found) => kept.add(label, found),
                 _ => unreachable!(),
             },
+            Effects::Unordered(kept) => Ok(add_unordered(kept, label, seen, update.is_some())?),
         }
     }
 
@@ -236,6 +249,10 @@ impl Effects {
                 Ok(()) => Ok(1),
                 Err(refused) => Err(refused),
             },
+            Effects::Unordered(kept) => match kept.deliver(replica, label) {
+                Ok(()) => Ok(1),
+                Err(refused) => Err(refused),
+            },
         }
     }
 
@@ -255,6 +272,7 @@ impl Effects {
             Effects::Overriding(kept) => kept.join(from),
             Effects::Rga(kept) => kept.join(from),
             Effects::List(kept) => kept.join(from),
+            Effects::Unordered(kept) => kept.join(from),
         }
     }
 
@@ -266,7 +284,7 @@ impl Effects {
     {
         match self {
             Effects::Commuting(kept) => has_query_half(&kept.updates, label),
-            Effects::Overriding(_) | Effects::Rga(_) => false,
+            Effects::Overriding(_) | Effects::Rga(_) | Effects::Unordered(_) => false,
             Effects::List(kept) => kept.has_update(label),
         }
     }
@@ -282,8 +300,11 @@ impl Effects {
             (λ order. (past.kind ≡ kinds.List) × Explains order.items past.records)) }
     {
         match self {
-            Effects::Commuting(_) | Effects::Overriding(_) | Effects::Rga(_) => Ok(None),
             Effects::List(kept) => Ok(Some(kept.list_order()?)),
+            Effects::Commuting(_)
+            | Effects::Overriding(_)
+            | Effects::Rga(_)
+            | Effects::Unordered(_) => Ok(None),
         }
     }
 
@@ -294,6 +315,7 @@ impl Effects {
             Effects::Overriding(kept) => *kept.writes.allocator(),
             Effects::Rga(kept) => kept.allocator(),
             Effects::List(kept) => kept.allocator(),
+            Effects::Unordered(kept) => kept.allocator(),
         }
     }
 }
@@ -315,6 +337,32 @@ fn nothing_unless(cause: Option<Cause>) -> Result<Found, Cause>
     match cause {
         Some(cause) => Err(cause),
         None => Ok(Found::Nothing),
+    }
+}
+
+// Adds the next label of an object of any type or a multi-value register, and returns the number of steps: 1 if it is
+// an update. No state is kept, so that no step is taken but this one.
+fn add_unordered(
+    kept: &mut Unordered,
+    label: &Label,
+    seen: &Seen<'_>,
+    is_update: bool,
+) -> Result<Result<u64, Failure>, NoMemory>
+    requires { may_be.MayAdd kept.old label.now seen.now }
+    ensures taken { (past : History) (next : NextOperation) → IsKeptOf kept.old past
+        → IsNext past next label.now seen.now
+        → IfOk result (λ added. MatchResult added
+        (λ steps. IsKeptOf kept.new (history_with past (operate next))
+        × (is_explained past.kind (operate next ∷ past.records) ≡ true))
+        (λ failure. IsKeptOf kept.new past × IsUnexplained past.kind (operate next ∷ past.records) failure)) }
+    ensures unchanged { IfOk result (λ added. OnErr added (kept.new ≡ kept.old)) }
+    ensures counted { IfOk result (λ added. IfOk added (λ steps. steps ≡ (if is_update then 1 else 0))) }
+    ensures same { OnErr result (kept.new ≡ kept.old) }
+{
+    if kept.add(label, seen)? {
+        Ok(Ok(u64::from(is_update)))
+    } else {
+        Ok(Err(Failure::of(Cause::Query)))
     }
 }
 

@@ -5,19 +5,20 @@ ghost use Rattle.std.specs.Result.{result_err};
 ghost use Rattle.ra_labels.specs.declared.kind.Kind.TheVariants as kinds;
 ghost use Rattle.ra_labels.specs.declared.label.Label.{Label};
 ghost use Rattle.ra_labels.specs.declared.command.Command.TheVariants.{Deliver, Join};
-ghost use Rattle.ra_labels.specs.ListHistory.{keeps_an_order};
+ghost use Rattle.ra_labels.specs.Explained.{is_explained};
 ghost use Rattle.ra_labels.specs.Records.{Records, replica_count};
 ghost use Rattle.ra_labels.specs.Fault.{sequence_cause};
 ghost use Rattle.ra_labels.specs.HistorySoFar.{history_of, NextOperation, operate};
 ghost use Rattle.ra_witness.specs.Labels.{update_in, updates_by_number};
 ghost use Rattle.ra_witness.specs.States.{steps_of};
 ghost use Rattle.ra_witness.specs.Sequence.{has_query_half};
-ghost use Rattle.ra_witness.specs.Failure.{IsCycleIn};
+ghost use Rattle.ra_witness.specs.Failure.{IsUnexplained};
 ghost use Rattle.ra_witness.specs.KeptList.{IsListOf, IsFoundFor, MayTake, MayReceive, MayCopy};
 ghost use Rattle.ra_witness.specs.ListOrder.{Explains};
 ghost use Rattle.ra_witness.specs.Offered.{IsOffered, IsDelivered, IsJoinedFrom};
 
-use ra_labels::{Cause, Edge, Label, NoMemory, Op};
+use crate::failure::Failure;
+use ra_labels::{Cause, Label, NoMemory, Op};
 use ra_list_effects::{Found, ListEffects};
 use std::alloc::Global;
 
@@ -65,13 +66,13 @@ impl KeptList {
     }
 
     /// Adds the next label, with what its test found, and returns the number of steps: 1 if it has an update. If no
-    /// order of the elements explains it with the label, returns a cycle of the edges that the labels require, and the
-    /// same history is represented.
+    /// order of the elements explains it with the label, returns this failure with a cycle of the edges that the labels
+    /// require, and the same history is represented.
     ///
     /// # Errors
     ///
     /// `NoMemory` if allocation fails; the same history is represented.
-    pub fn add(&mut self, label: &Label, found: Found) -> Result<Result<u64, Vec<Edge>>, NoMemory>
+    pub fn add(&mut self, label: &Label, found: Found) -> Result<Result<u64, Failure>, NoMemory>
         requires may { MayTake self.old label.now }
         requires found { IsFoundFor self.old label.now found }
         ensures taken { (initial_replicas : ℕ) (records : Records) (next : NextOperation)
@@ -80,10 +81,9 @@ impl KeptList {
             → sequence_cause kinds.List (operate next ∷ records) ≡ None
             → IfOk result (λ added. MatchResult added
             (λ steps. IsListOf self.new initial_replicas (operate next ∷ records)
-            × (keeps_an_order kinds.List (operate next ∷ records) ≡ true))
-            (λ cycle. IsListOf self.new initial_replicas records
-            × (keeps_an_order kinds.List (operate next ∷ records) ≡ false)
-            × IsCycleIn kinds.List (operate next ∷ records) cycle.items)) }
+            × (is_explained kinds.List (operate next ∷ records) ≡ true))
+            (λ failure. IsListOf self.new initial_replicas records
+            × IsUnexplained kinds.List (operate next ∷ records) failure)) }
         ensures unchanged { (initial_replicas : ℕ) (records : Records) → IsListOf self.old initial_replicas records
             → IfOk result (λ added. OnErr added (IsListOf self.new initial_replicas records)) }
         ensures counted { IfOk result (λ added. IfOk added (λ steps. steps ≡ steps_of (update_in label.now.op))) }
@@ -98,7 +98,7 @@ impl KeptList {
             .effects
             .add(alloc, label.replica, op, found, label.number)?
         {
-            Some(cycle) => Ok(Err(cycle)),
+            Some(cycle) => Ok(Err(Failure::of_elements(cycle))),
             None => {
                 // Some order extends the edges of all labels: it is the order that explains them.
                 self.effects.invariant();

@@ -12,6 +12,7 @@ use ra_rewrite::{Part, Parts};
 use ra_seqspec::State;
 
 /// Returns the cause if a label with these parts fails at a replica in this state because of its query, or `None`.
+#[inline(always)]
 pub fn cause(state: &State, parts: &Parts) -> Option<Cause>
     requires { list_all asks_rising (queries_in (acts_in parts.now)) ≡ true }
     ensures { result ≡ cause_in (Some state.now) (acts_in parts.now) }

@@ -76,7 +76,7 @@ impl<O: NamedOrder> Witness<O> {
     /// One `place` and one `put` of the order; for a query one `State::admits`, for an update one `State::apply`. An
     /// RGA's insertion is inserted into the list of all elements besides. A replica's array by element number
     /// (`LastUpdates`, or the marks of an RGA) is extended if necessary. For a list that of `ListEffects::test` and
-    /// `ListEffects::add`.
+    /// `ListEffects::add`; for any type and a multi-value register that of `Unordered::add`.
     pub fn offer(&mut self, label: &Label, seen: &Seen<'_>) -> Result<Option<Failure>, NoMemory>
         // The label comes next after a history that the witness represents and that has fewer than `MOST_LABELS`
         // labels.
@@ -126,9 +126,9 @@ impl<O: NamedOrder> Witness<O> {
             Err(cause) => return Ok(Some(Failure::of(cause))),
         };
         self.order.spare()?;
-        let steps = match self.kept.add(label, admitted)? {
+        let steps = match self.kept.add(label, seen, admitted)? {
             Ok(steps) => steps,
-            Err(cycle) => return Ok(Some(Failure::of_elements(cycle))),
+            Err(failure) => return Ok(Some(failure)),
         };
         self.order.put(label, seen, place);
         self.steps = self.steps.saturating_add(steps);

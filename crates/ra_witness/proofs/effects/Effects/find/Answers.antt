@@ -4,7 +4,8 @@ use Rattle.ra_labels.specs.Fault.{sequence_cause}
 use Rattle.ra_labels.specs.HistorySoFar.{history_of, operate}
 use Rattle.ra_witness.specs.Offered.{IsOffered}
 use Rattle.ra_witness.specs.Overriding.{updates_written}
-use Rattle.ra_witness.proofs.CommutingKinds.{is_commuting, is_overriding, is_list, admits-commuting, admits-overriding, cause_known}
+use Rattle.ra_witness.proofs.TakenUnordered.{no_cause}
+use Rattle.ra_witness.proofs.CommutingKinds.{is_commuting, is_overriding, is_list, is_unordered, admits-commuting, admits-overriding, cause_known}
 use Rattle.ra_witness.proofs.effects.Effects.find.Goals as goal
 
 pub returns-in-Commuting-clause-cause : goal.returns-in-Commuting-clause-cause
@@ -36,3 +37,8 @@ returns-in-Err-2-clause-cause c = λ past next stands offered acts.
     ∙ c.in_ok-found-in-List.ensures.cause past.initial_replicas past.records next known.1
     (subst (λ k. IsOffered (history_of k past.initial_replicas past.records) next c.args.label.now) known.0 offered)
     ∙ ap (λ k. sequence_cause k (operate next ∷ past.records)) (sym known.0)
+
+pub returns-in-Unordered-clause-cause : goal.returns-in-Unordered-clause-cause
+returns-in-Unordered-clause-cause c = λ past next stands offered acts.
+    let kept = c.in-Unordered.field-0 in
+    sym (no_cause kept past next c.args.label.now (is_unordered c.args.self.now past stands kept c.in-Unordered.is) offered)

@@ -1,7 +1,10 @@
-use Rattle.std.proofs.Common.{refl, ap, sym, ◌∙◌, arith}
+use Rattle.std.proofs.Common.{◌∷◌, refl, ap, sym, ◌∙◌, arith}
+use Rattle.ra_labels.specs.declared.kind.Kind.TheVariants as kinds
+use Rattle.ra_labels.specs.HistorySoFar.{operate}
 use Rattle.ra_labels.specs.declared.label.Label.{Label}
 use Rattle.ra_list_effects.specs.Past.{with_operation}
 use Rattle.ra_witness.proofs.KeptLists.{elements_few, within}
+use Rattle.ra_witness.proofs.Failures.{shown_by_it}
 use Rattle.ra_witness.proofs.ListCauses.{cause_is}
 use Rattle.ra_witness.proofs.TakenOperations.{past_now, explained, unexplained, cycle_now}
 use Rattle.ra_witness.proofs.kept_list.KeptList.add.Goals as goal
@@ -20,13 +23,17 @@ returns-in-Some-clause-taken c = λ initial_replicas records next stands offered
     let inside = within c.args.self.now.effects past stands.stands in
     let after = rw c.in-Some.is at c.in_ok-cycle.ensures.added past stands.stands right in (
       record { past = past; stands = after.0; is = stands.is },
-      unexplained past initial_replicas records next c.args.label.now c.in-List.op stands.is offered same right inside
-          c.in-Some.cycle.items after.1,
-      (
-        refl,
-        cycle_now past initial_replicas records next c.args.label.now c.in-List.op stands.is offered same right inside
-            c.in-Some.cycle.items after.1,
-      ),
+      record {
+        fails = unexplained past initial_replicas records next c.args.label.now c.in-List.op stands.is offered same right
+            inside c.in-Some.cycle.items after.1;
+        cause = c.of_elements.ensures.cause;
+        cycle = shown_by_it kinds.List (operate next ∷ records) c.of_elements.result c.in-Some.cycle
+            c.of_elements.ensures.cause c.of_elements.ensures.cycle (
+              refl,
+              cycle_now past initial_replicas records next c.args.label.now c.in-List.op stands.is offered same right inside
+                  c.in-Some.cycle.items after.1,
+            );
+      },
     )
 
 pub returns-in-None-clause-taken : goal.returns-in-None-clause-taken

@@ -1,7 +1,8 @@
 use Rattle.std.proofs.Common.{◌∷◌, true, false, true≢false, Some, refl, sym, ap, ◌∙◌, subst, arith}
 use Rattle.std.specs.Result.{result_err}
 use Rattle.ra_witness.specs.States.{steps_of}
-use Rattle.ra_witness.proofs.OfferedLabels.{cause_in_sequence, cause_of_elements, from_not, is_offered, comes_offered, order_fails, listed_count, update_known, all_admitted, same_op, taken, kept_same, in_ok, in_ok_part, in_err, in_err_part, fits_in_a_list, not_for_order, shown_by_none, shown_by_it}
+use Rattle.ra_witness.proofs.OfferedLabels.{cause_in_sequence, cause_of_kind, from_not, is_offered, comes_offered, order_fails, listed_count, update_known, all_admitted, same_op, taken, kept_same, in_ok, in_ok_part, in_err, in_err_part, fits_in_a_list, not_for_order}
+use Rattle.ra_witness.proofs.Failures.{shown_by_none}
 use Rattle.ra_witness.proofs.witness.Witness.offer.Goals as goal
 use Rattle.ra_labels.specs.HistorySoFar.{operate}
 use Rattle.ra_witness.specs.Effects.{AreEffectsOf, IsFoundIn}
@@ -54,6 +55,7 @@ add-requires-clause-may g c =
       next = may.next;
       stands = subst (λ k. AreEffectsOf k may.past) (sym c.admit.ensures.same) may.stands.kept;
       offered = offered;
+      comes = may.comes;
       admitted = all_admitted may.past.kind (operate may.next ∷ may.past.records)
           (ap result_err (sym c.in-Ok.is) ∙ c.in_ok-admitted.ensures.cause may.past may.next may.stands.kept offered acts);
       update_is = update_known c.in-Ok.admitted.update _ may.next.op (rw c.in-Ok.is at c.in_ok-admitted.ensures.update) acts;
@@ -84,8 +86,8 @@ returns-clause-cause g c = λ past next stands comes.
     let kept = subst (λ k. AreEffectsOf k past) (sym c.admit.ensures.same) stands.kept in
     let because = ap result_err (sym c.in-Ok.is) ∙ c.in_ok-admitted.ensures.cause past next stands.kept offered acts in
     let after = in_ok _ _ c.in_ok-steps.field-0 c.in-Ok-2.steps c.in-Ok-2.is
-    (c.in_ok-steps.ensures.taken past next kept offered (sym because) update) in
-    cause_of_elements past.kind (operate next ∷ past.records) true because after.1
+    (c.in_ok-steps.ensures.taken past next kept offered comes (sym because) update) in
+    cause_of_kind past.kind (operate next ∷ past.records) true because after.1
 
 pub returns-in-Err-2-clause-cause : goal.returns-in-Err-2-clause-cause
 returns-in-Err-2-clause-cause g c = λ past next stands comes.
@@ -98,10 +100,10 @@ returns-in-Err-2-clause-cause g c = λ past next stands comes.
     (rw c.in-Ok.is at c.in_ok-admitted.ensures.update) acts in
     let kept = subst (λ k. AreEffectsOf k past) (sym c.admit.ensures.same) stands.kept in
     let because = ap result_err (sym c.in-Ok.is) ∙ c.in_ok-admitted.ensures.cause past next stands.kept offered acts in
-    let after = in_err _ _ c.in_ok-steps.field-0 c.in-Err-2.cycle c.in-Err-2.is
-    (c.in_ok-steps.ensures.taken past next kept offered (sym because) update) in
-    ap Some c.of_elements.ensures.cause
-    ∙ cause_of_elements past.kind (operate next ∷ past.records) false because after.1
+    let after = in_err _ _ c.in_ok-steps.field-0 c.in-Err-2.failure c.in-Err-2.is
+    (c.in_ok-steps.ensures.taken past next kept offered comes (sym because) update) in
+    ap Some after.1.cause
+    ∙ cause_of_kind past.kind (operate next ∷ past.records) false because after.1.fails
 
 pub returns-clause-taken : goal.returns-clause-taken
 returns-clause-taken g c = λ past next stands comes same.
@@ -115,9 +117,9 @@ returns-clause-taken g c = λ past next stands comes same.
     let kept = subst (λ k. AreEffectsOf k past) (sym c.admit.ensures.same) stands.kept in
     let because = ap result_err (sym c.in-Ok.is) ∙ c.in_ok-admitted.ensures.cause past next stands.kept offered acts in
     let after = in_ok _ _ c.in_ok-steps.field-0 c.in-Ok-2.steps c.in-Ok-2.is
-    (c.in_ok-steps.ensures.taken past next kept offered (sym because) update) in
+    (c.in_ok-steps.ensures.taken past next kept offered comes (sym because) update) in
     taken g.O.NamedOrder.stands_for c.args.self.now _ past next c.args.label.now c.args.seen.now stands comes
-    (cause_of_elements past.kind (operate next ∷ past.records) true because after.1)
+    (cause_of_kind past.kind (operate next ∷ past.records) true because after.1)
     (c.put.ensures.stands past next (c.in_ok-spare.ensures.stands past stands.order) comes
     (c.place-place.ensures past next stands.order comes)) after.0
 
@@ -167,7 +169,7 @@ pub returns-in-Err-2-clause-same : goal.returns-in-Err-2-clause-same
 returns-in-Err-2-clause-same g c = λ past stands failed.
     let kept = subst (λ k. AreEffectsOf k past) (sym c.admit.ensures.same) stands.kept in
     kept_same g.O.NamedOrder.stands_for c.args.self.now _ past stands (c.in_ok-spare.ensures.stands past stands.order)
-    (in_err_part c.in_ok-steps.field-0 _ c.in-Err-2.cycle c.in-Err-2.is (c.in_ok-steps.ensures.unchanged past kept))
+    (in_err_part c.in_ok-steps.field-0 _ c.in-Err-2.failure c.in-Err-2.is (c.in_ok-steps.ensures.unchanged past kept))
 
 pub returns-clause-same : goal.returns-clause-same
 returns-clause-same g c = λ past stands failed. absurd (failed refl)
@@ -217,7 +219,6 @@ returns-in-Err-2-clause-cycle g c = λ past next stands comes.
     (rw c.in-Ok.is at c.in_ok-admitted.ensures.update) acts in
     let kept = subst (λ k. AreEffectsOf k past) (sym c.admit.ensures.same) stands.kept in
     let because = ap result_err (sym c.in-Ok.is) ∙ c.in_ok-admitted.ensures.cause past next stands.kept offered acts in
-    let after = in_err _ _ c.in_ok-steps.field-0 c.in-Err-2.cycle c.in-Err-2.is
-    (c.in_ok-steps.ensures.taken past next kept offered (sym because) update) in
-    shown_by_it past.kind (operate next ∷ past.records) c.of_elements.result c.in-Err-2.cycle
-    c.of_elements.ensures.cause c.of_elements.ensures.cycle after.2
+    let after = in_err _ _ c.in_ok-steps.field-0 c.in-Err-2.failure c.in-Err-2.is
+    (c.in_ok-steps.ensures.taken past next kept offered comes (sym because) update) in
+    after.1.cycle

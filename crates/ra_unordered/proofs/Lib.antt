@@ -1,0 +1,4 @@
+pub mod Counts
+pub mod FirstReads
+pub mod NextLabels
+pub mod KeptSiblings

@@ -1,0 +1,3 @@
+pub mod FirstReads
+pub mod Register
+pub mod Unordered
