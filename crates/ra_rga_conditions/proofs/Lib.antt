@@ -1,0 +1,12 @@
+pub mod SequenceOrders
+pub mod ListedReads
+pub mod RgaOperations
+pub mod VisibleParts
+pub mod Precedences
+pub mod FinalSets
+pub mod Growing
+pub mod SortedLists
+pub mod Explaining
+pub mod ExplainedReads
+pub mod PlainConditions
+pub mod TheoremIndex

@@ -1,0 +1,2 @@
+pub mod Precedence
+pub mod Plain
