@@ -1,0 +1,14 @@
+pub mod ElementSets
+pub mod NarrowSides
+pub mod ElementReads
+pub mod TakenUpdates
+pub mod SeenBefore
+pub mod FoundChanges
+pub mod LastLabels
+pub mod RegisterReads
+pub mod NamedLabels
+pub mod LabelConditions
+pub mod AddedElements
+pub mod SetReads
+pub mod Conclusions
+pub mod ReadOutcomes

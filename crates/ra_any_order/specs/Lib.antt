@@ -1,0 +1,10 @@
+pub mod Situation
+pub mod Previous
+pub mod Reading
+pub mod Changes
+pub mod Elements
+pub mod Finding
+pub mod Requirements
+pub mod Outcomes
+pub mod Answers
+pub mod Found

@@ -1,0 +1,26 @@
+//! Whether any order of the labels explains the records of a register or an LWW set: an order, or why there is none.
+//!
+//! Each label comes after the newest update that it sees of each replica, and after the previous label of its replica.
+//! The last of the newest visible writes is one of the value that a register's read returned. For an LWW set, the last
+//! of an element's newest visible updates is an addition exactly if the read lists the element. These conditions are
+//! few, and an order of the labels meets them exactly if the parts of the labels in this order are an RA-linearization
+//! (`ra_some_order`).
+//!
+//! Contract for the crates above: `some_order` returns such an order, or a refutation by which no sequence at all is an
+//! RA-linearization (`specs/Answers`).
+#![tactic(auto)]
+
+mod answer;
+mod changes;
+mod conditions;
+mod elements;
+mod operations;
+mod ordering;
+mod outcome;
+mod previous;
+mod reads;
+mod values;
+mod views;
+
+pub use answer::{AnyOrder, Refutation};
+pub use ordering::some_order;
