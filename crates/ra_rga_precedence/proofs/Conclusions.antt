@@ -1,0 +1,195 @@
+-- Lemmas on what the conditions of all labels lead to.
+use Rattle.std.proofs.Common.{◌≡◌, ℕ, Bool, true, false, List, [], ◌∷◌, ◌++◌, Option, Some, None, length, get_or, refl, sym, ap, subst, ◌∙◌, inl, inr, arith}
+use Rattle.std.specs.Prelude.{filter, Contains, slice_get, option_and_then}
+use Rattle.std.specs.Option.{option_map_or}
+use Rattle.std.proofs.lemmas.Bool.{cases_Bool, false≢true, cond-true, cond-false}
+use Rattle.std.proofs.lemmas.Option.{none-some}
+use Rattle.std.proofs.lemmas.List.Elements.{Contains-get_or}
+use Rattle.ra_labels.specs.declared.kind.Kind.TheVariants.{Rga}
+use Rattle.ra_labels.specs.declared.operation.Op.{Op}
+use Rattle.ra_labels.specs.declared.operation.Op.TheVariants as op
+use Rattle.ra_labels.specs.Edges.{IsBefore}
+use Rattle.ra_labels.specs.Records.{Records, label_count}
+use Rattle.ra_labels.specs.Visibility.{is_update, is_update_at}
+use Rattle.ra_labels.proofs.Members.{head_or_behind, at_head, none_there, kept-there}
+use Rattle.ra_list_order.proofs.Cycles.{new_from_once}
+use Rattle.ra_theorems.proofs.TheoremIndex.{sees_earlier_updates-updates}
+use Rattle.ra_precedence.specs.Conditions.{Condition, no_condition, condition_at, MeetsAll, HasEachBelow, NameOnlyBelow}
+use Rattle.ra_some_order.specs.SomeOrder.{EachLabelIsOfKind}
+use Rattle.ra_some_order.proofs.LabelOrders.{order_in}
+use Rattle.ra_some_order.proofs.LabelSequences.{updates_at as label_updates}
+use Rattle.ra_rga_conditions.specs.Precedence.{HasOperationAt, Inserts, Needs, MustStandBefore, Seen, Needed, Read}
+use Rattle.ra_rga_conditions.specs.Plain.{MeetsPlainConditions}
+use Rattle.ra_rga_conditions.proofs.TheoremIndex.{order_explains}
+use Rattle.ra_rga_precedence.specs.Operations.{element_needed}
+use Rattle.ra_rga_precedence.specs.Needing.{IsNeeded, AreNeeded}
+use Rattle.ra_rga_precedence.specs.Ranks.{AreRanks, AreNeedRanks}
+use Rattle.ra_rga_precedence.specs.Neighbors.{edge}
+use Rattle.ra_rga_precedence.specs.UpdateConditions.{NameBelow, HoldNeeds, AreUpdateConditions}
+use Rattle.ra_rga_precedence.specs.Answers.{AreDemanded, AreEnough, AreReadConditions, Explains}
+use Rattle.ra_rga_precedence.specs.Inserting.{AreInserters}
+use Rattle.ra_rga_precedence.proofs.ConditionLists.{AreListed, updates_same}
+use Rattle.ra_rga_precedence.proofs.Translations.{listed_needs, needs_listed, needs_below, exists_at}
+use Rattle.ra_rga_precedence.proofs.InsertedElements.{inserter_is, inserter_inserts, root_not_inserted, inserted_need, are_inserted}
+use Rattle.ra_rga_precedence.proofs.KeptUpdates.{among_cases, needed_before, seen_before}
+
+pub names_only : (count : ℕ) (conditions : List Condition) → NameBelow count conditions → NameOnlyBelow count conditions
+names_only count conditions named = record {
+  before =
+      λ i b within first. named (condition_at conditions i) (Contains-get_or conditions i no_condition within) b
+      (inl first);
+  after =
+      λ i c within second. named (condition_at conditions i) (Contains-get_or conditions i no_condition within) c
+      (inr second);
+}
+
+-- ---- operations that insert or need are updates
+needs_update : (o : Option Op) (x : ℕ) → option_and_then element_needed o ≡ Some x → option_map_or is_update o false ≡ true
+needs_update None x is = absurd (none-some x is)
+needs_update (Some operation) x is = one operation is
+  where
+    one : (operation : Op) → element_needed operation ≡ Some x → is_update operation ≡ true
+    one (op.After a y) is = refl
+    one (op.RgaRemove y) is = refl
+    one _ is = absurd (none-some x is)
+
+-- ---- ranks
+pub need_ranks : (operations : List Op) (count : ℕ) (inserter : ℕ → Option ℕ) (needed : List (Option ℕ))
+    → length needed ≡ count → AreNeeded operations inserter needed → (conditions : List Condition)
+    → HoldNeeds operations needed count conditions → (order ranks : List ℕ) → MeetsAll order conditions
+    → AreRanks count order ranks → AreNeedRanks needed ranks
+need_ranks operations count inserter needed len are conditions hold order ranks meets ranked = record {
+  len = ranked.len ∙ sym len;
+  positive = λ n within. ranked.positive n (omega (arith, within, len));
+  falls =
+      λ n m within is.
+      let (x, needs, its) = subst (IsNeeded operations inserter n) is (are.each n within) in
+      let (condition, there, first, second) = hold n m (omega (arith, within, len))
+      (needs_update (slice_get operations n) x needs) is in
+      let (c, after, before) = meets condition there m first in
+      elim (head_or_behind n [] c (subst (λ ns. Contains ns c) second after)) [
+        | inl same ↦ ranked.rises m n (subst (IsBefore order m) (sym same) before)
+        | inr further ↦ absurd (none_there c further)
+      ];
+}
+
+module _ (records : Records) (operations : List Op) (listed : AreListed records operations) (inserter : ℕ → Option ℕ)
+    (inserters : AreInserters operations (label_count records) inserter) (needed : List (Option ℕ))
+    (len : length needed ≡ label_count records) (needs_are : AreNeeded operations inserter needed)
+    (first : List Condition) (updates_are : AreUpdateConditions records needed (label_count records) first) where
+  -- what the conditions of the updates say
+  pub updates_demanded : AreDemanded records first
+  updates_demanded condition b there before =
+      let (n, below, updates, (newest, newest_are, is)) = updates_are.only condition there in
+      let after : condition.after ≡ n ∷ [] = ap (λ (c : Condition). c.after) is in
+      elim (among_cases newest (get_or needed n None) b (subst (λ (c : Condition). Contains c.before b) is before)) [
+        | inl seen ↦ (n, after, Seen updates (newest_are.seen b seen))
+        | inr needs ↦
+            let (x, its, is_its) = subst (IsNeeded operations inserter n) needs
+            (needs_are.each n (omega (arith, below, len))) in (
+              n,
+              after,
+              Needed x (inserter_inserts records operations listed inserter inserters b x is_its)
+                  (listed_needs records operations listed n x its).0,
+            )
+      ]
+
+  -- what an update needs, if it is inserted
+  its_need : (m n x : ℕ) → Inserts records m x → Needs records n x
+      → (is_update_at records n ≡ true) × (get_or needed n None ≡ Some m)
+  its_need m n x inserts needs =
+      let is = inserter_is records operations listed inserter inserters m x inserts in
+      let apart : ¬ (x ≡ 0) =
+      λ root. root_not_inserted records operations listed inserter inserters m (ap inserter (sym root) ∙ is) in
+      let at = needs_listed records operations listed n x needs apart in
+      let (k, its, k_is) = inserted_need records operations listed inserter inserters needed len needs_are n x
+      (needs_below records operations listed n x needs) at in (
+        sym (updates_same records operations listed n) ∙ needs_update (slice_get operations n) x at,
+        its ∙ sym k_is ∙ is,
+      )
+
+  module _ (all : List Condition) (reads_are : AreReadConditions records (label_count records) first all) where
+    pub all_demanded : AreDemanded records all
+    all_demanded condition b there before = elim (reads_are.only condition there) [
+      | inl older ↦ updates_demanded condition b older before
+      | inr (m, n, its, is) ↦ elim (head_or_behind m [] b (subst (λ (c : Condition). Contains c.before b) is before)) [
+        | inl same ↦ (
+          n,
+          ap (λ (c : Condition). c.after) is,
+          subst (λ k. MustStandBefore records k n) same (Read its),
+        )
+        | inr further ↦ absurd (none_there b further)
+      ]
+    ]
+
+    pub all_enough : AreEnough records all
+    all_enough order each meets m n (Seen updates seen) =
+        seen_before records needed first updates_are order (new_from_once order each.once)
+        (λ condition there. meets condition (reads_are.kept condition there)) m n updates seen
+    all_enough order each meets m n (Needed x inserts needs) =
+        let (updates, its) = its_need m n x inserts needs in
+        needed_before records needed first updates_are order (new_from_once order each.once)
+        (λ condition there. meets condition (reads_are.kept condition there)) m n updates its
+    all_enough order each meets m n (Read its) =
+        let (before, after, has) = its.listed in
+        let below = exists_at records operations listed its.read
+        (op.RgaRead (before ++ its.first ∷ its.second ∷ after)) has in
+        let (c, second, is_before) = meets (edge m n) (reads_are.each m n its below) m (at_head m [] m refl) in
+        elim (head_or_behind n [] c second) [
+          | inl same ↦ subst (IsBefore order m) (sym same) is_before
+          | inr further ↦ absurd (none_there c further)
+        ]
+
+    pub plain : MeetsPlainConditions records
+    plain = record {
+      inserted = are_inserted records operations listed inserter inserters needed len needs_are;
+      reads = λ n list has. reads_are.possible n list (exists_at records operations listed n (op.RgaRead list) has) has;
+    }
+
+-- ---- an order that meets the conditions
+kept_before : (test : ℕ → Bool) (xs : List ℕ) (a b : ℕ) → test a ≡ true → test b ≡ true → IsBefore xs a b
+    → IsBefore (filter test xs) a b
+kept_before test [] a b first second before = absurd before
+kept_before test (x ∷ xs) a b first second before = elim (cases_Bool (test x)) [
+  | inl passes ↦ subst (λ ys. IsBefore ys a b) (sym (cond-true (test x) (x ∷ filter test xs) (filter test xs) passes))
+      (elim before [
+        | inl here ↦ inl (here.0, kept-there test xs b here.1 second)
+        | inr further ↦ inr (kept_before test xs a b first second further)
+      ])
+  | inr fails ↦ subst (λ ys. IsBefore ys a b) (sym (cond-false (test x) (x ∷ filter test xs) (filter test xs) fails))
+      (elim before [
+        | inl here ↦ absurd (false≢true (sym fails ∙ ap test here.0 ∙ first))
+        | inr further ↦ kept_before test xs a b first second further
+      ])
+]
+
+operation_updates : (records : Records) (n : ℕ) (operation : Op) → HasOperationAt records n operation
+    → is_update operation ≡ true → is_update_at records n ≡ true
+operation_updates records n operation (label, there, numbered, is) updates =
+    ap (is_update_at records) (sym numbered) ∙ label_updates records label there ∙ ap is_update is ∙ updates
+
+inserts_updates : (records : Records) (n x : ℕ) → Inserts records n x → is_update_at records n ≡ true
+inserts_updates records n x (a, has) = operation_updates records n (op.After a x) has refl
+
+needs_updates : (records : Records) (n x : ℕ) → Needs records n x → is_update_at records n ≡ true
+needs_updates records n x (inl (y, has)) = operation_updates records n (op.After x y) has refl
+needs_updates records n x (inr has) = operation_updates records n (op.RgaRemove x) has refl
+
+precedes_updates : (records : Records) (m n : ℕ) → MustStandBefore records m n
+    → (is_update_at records m ≡ true) × (is_update_at records n ≡ true)
+precedes_updates records m n (Seen updates seen) = (sees_earlier_updates-updates records n m seen, updates)
+precedes_updates records m n (Needed x inserts needs) =
+    (inserts_updates records m x inserts, needs_updates records n x needs)
+precedes_updates records m n (Read its) =
+    (inserts_updates records m its.right its.inserts_right, inserts_updates records n its.left its.inserts_left)
+
+pub order_explaining : (records : Records) → EachLabelIsOfKind Rga records → MeetsPlainConditions records
+    → (conditions : List Condition) → AreEnough records conditions → (order : List ℕ)
+    → HasEachBelow (label_count records) order → MeetsAll order conditions → Explains records order
+order_explaining records of_kind plain conditions enough order each meets = (
+  each,
+  order_explains records (filter (is_update_at records) order) of_kind plain (order_in records order each)
+      (λ m n first.
+      let (m_updates, n_updates) = precedes_updates records m n first in
+      kept_before (is_update_at records) order m n m_updates n_updates (enough order each meets m n first)),
+)

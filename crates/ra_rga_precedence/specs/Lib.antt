@@ -1,0 +1,12 @@
+pub mod Situation
+pub mod Operations
+pub mod Inserting
+pub mod Needing
+pub mod UpdateConditions
+pub mod Ranks
+pub mod Relations
+pub mod Marks
+pub mod Neighbors
+pub mod Reads
+pub mod Answers
+pub mod Foundations

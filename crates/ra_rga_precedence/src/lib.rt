@@ -1,0 +1,25 @@
+//! Whether any order of the updates explains the records of an RGA: what the records demand of an order, or why there
+//! is none.  An update comes after the newest update that it sees of each replica, and after the insertion of its
+//! anchor or of the element that it removes. Two adjacent elements of a read show which of two insertions came later.
+//! These conditions are edges between labels. An order meets them exactly if it keeps the precedence of the records
+//! (`ra_rga_conditions`).  Contract for the crates above: `demands_of` returns such conditions, or a refutation by
+//! which no sequence at all is an RA-linearization; `some_order` returns an order of the updates of some
+//! RA-linearization, or a refutation (`specs/Answers`).
+#![tactic(auto)]
+
+mod answer;
+mod demands;
+mod inserters;
+mod insertions;
+mod marks;
+mod needs;
+mod neighbors;
+mod operations;
+mod ordering;
+mod ranks;
+mod reads;
+mod relations;
+mod update_conditions;
+
+pub use answer::{AnyOrder, Refutation};
+pub use ordering::{Demands, demands_of, some_order};
