@@ -36,8 +36,8 @@ pub record IsReport (old new : DeskReporter) (command : Command) (result : Resul
   -- The reply is `No` with a label and a cause exactly if these are the fault of the records up to and with this
   -- report.
   pub no : IfOk result (IsNoAtFault (setup_of new) (log_of new))
-  -- For a counter, an OR-Set or a list a reply `No` is final: no sequence is an RA-linearization of the records up
-  -- to its label, not even one that only extends visibility.
+  -- For the kinds that do not go by timestamps a reply `No` is final: no sequence is an RA-linearization of the records
+  -- up to its label, not even one that only extends visibility.
   pub final_no : IfOk result (λ reply. IsTrue (is_of_any_order (setup_of new).kind)
       → IsFinalNo (setup_of new) (log_of new) reply)
   -- An error returns the command to the caller.

@@ -1,6 +1,6 @@
 -- Lemmas on the past that a history represents after one more record.
 use Rattle.std.proofs.Common.{◌≡◌, ℕ, ◌+◌, ◌∷◌, Option, Some, None, refl, sym, ap, ◌∙◌, subst, arith}
-use Rattle.std.specs.Prelude.{option_map, cond, is_none, vec_len}
+use Rattle.std.specs.Prelude.{◌≤◌, option_map, cond, is_none, vec_len}
 use Rattle.std.specs.Option.{option_or, option_map_or}
 use Rattle.std.specs.Global as global
 use Rattle.ra_labels.specs.declared.edge.Edge.{Edge}
@@ -17,9 +17,10 @@ use Rattle.ra_labels.specs.Fault.{fault_of, fault_at, cause_of, records_before_f
 use Rattle.ra_labels.specs.Answer.{no_reply, answer_to_accepted}
 use Rattle.ra_labels.specs.HistorySoFar.{History, history_with, IsAccepted, NextOperation, operate, label_of}
 use Rattle.ra_theorems.proofs.TheoremIndex.{records_before_fault_have_none-all}
-use Rattle.ra_visibility.specs.Seen.{Seen}
+use Rattle.ra_visibility.specs.Seen.{Seen, count_in}
+use Rattle.ra_visibility.specs.Kept.{issued_count}
 use Rattle.ra_visibility.specs.Tracked.{IsVisibilityOf, seen_in}
-use Rattle.ra_visibility.proofs.TheoremIndex.{seen_matches_records}
+use Rattle.ra_visibility.proofs.TheoremIndex.{issued_matches_records, seen_matches_records}
 use Rattle.ra_witness.specs.Failure.{ShowsCycle}
 use Rattle.ra_witness.specs.Witness.{IsWitnessOf}
 use Rattle.ra_monitor.specs.declared.history.TrackedHistory.{TrackedHistory}
@@ -33,14 +34,20 @@ use Rattle.ra_visibility.specs.Order.{ComesNext}
 -- the newest label is the next one for the witness
 pub comes_next : (history : TrackedHistory) (past : History) (next : NextOperation) (label : Label) (brought : UniqueKey) (seen : Seen)
     → HasNewest history past next label brought → seen ≡ seen_in history.tracker.now label.number
+    → ((of : ℕ) → count_in seen of ≤ issued_count history.tracker.now of)
     → ComesNext past next label seen
-comes_next history past next label brought seen newest sees =
+comes_next history past next label brought seen newest sees few =
     let is : label.number ≡ label_count past.records = ap (λ (l : Label). l.number) newest.becomes in
     record {
       causal = newest.causal;
       accepted = newest.accepted;
       becomes = newest.becomes;
       sees = rw (sees, is) (seen_matches_records history.tracker.now (history_with past (operate next)) (label_count past.records) newest.tracker (omega (arith, newest.tracker.labels)));
+      issued = λ of. omega (
+        arith,
+        few of,
+        issued_matches_records history.tracker.now (history_with past (operate next)) of newest.tracker,
+      );
     }
 
 -- the fault with the newest label

@@ -33,6 +33,10 @@ carries_none (op.After anchor x) given e = absurd (cc e)
 carries_none (op.RgaRemove x) given e = refl
 carries_none (op.RgaRead list) given e = refl
 carries_none (op.List operation) given e = refl
+carries_none op.AnyUpdate given e = refl
+carries_none (op.AnyRead value) given e = refl
+carries_none (op.MvWrite value) given e = refl
+carries_none (op.MvRead values) given e = refl
 
 -- so if its form is right, it has no clock
 pub no_clock : (kind : Kind) (next : NextOperation) (given : ℕ) → form_refusal kind (operate next) ≡ None

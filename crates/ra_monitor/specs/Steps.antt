@@ -28,8 +28,8 @@ pub record IsStep (old new : Monitor) (by at : ℕ) (command : Command) (result 
   -- The reply is `No` with a label and a cause exactly if these are the fault of the records up to and with this
   -- command.
   pub no : IfOk result (IsNoAtFault new.setup new.log)
-  -- For a counter, an OR-Set or a list a reply `No` is final: no sequence is an RA-linearization of the records up
-  -- to its label, not even one that only extends visibility.
+  -- For the kinds that do not go by timestamps a reply `No` is final: no sequence is an RA-linearization of the records
+  -- up to its label, not even one that only extends visibility.
   pub final_no : IfOk result (λ reply. IsTrue (is_of_any_order new.setup.kind) → IsFinalNo new.setup new.log reply)
   -- `Full` is returned exactly if the log has as many entries as its limit.
   pub full : (result ≡ Err (Full command)) ↔ (length old.log ≡ old.setup.limit)

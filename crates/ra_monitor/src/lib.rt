@@ -21,7 +21,7 @@ mod reporter;
 mod setup;
 pub mod theorems;
 mod trial;
-mod used_keys;
+pub mod used_keys;
 
 pub use faults::NewFault;
 pub use monitor::Monitor;

@@ -227,8 +227,8 @@ impl Monitor {
     ///
     /// # Complexity
     ///
-    /// O(n) for a counter, an OR-Set or a list, and O(n r) for the other kinds, where `n` is the number of labels and
-    /// `r` the number of the order's runs.
+    /// O(n) for the kinds that do not go by timestamps, and O(n r) for the other kinds, where `n` is the number of
+    /// labels and `r` the number of the order's runs.
     pub fn sequence(&self) -> Result<Vec<PartRef>, NoMemory>
         // The result is the named sequence of the labels before the fault, or of all labels if there is none.
         ensures named { IfOk result (λ parts. parts.items
@@ -266,8 +266,9 @@ impl Monitor {
 
     /// Returns a cycle of the edges that the labels require, if the kind is a list and the fault's cause is the order,
     /// and `None` otherwise. No order of the elements extends it (`no_order_extends_cycle` of `ra_list_order`), so none
-    /// explains the labels up to the fault. Each edge has a label that requires it. Another cycle may be shorter:
-    /// `ra_explain` searches for a shortest one. Does not allocate.
+    /// explains the labels up to the fault. Each edge has a label that requires it. Another cycle may be shorter, and
+    /// no clause rules out that this one passes an element twice: `ra_explain` searches for a shortest cycle, which
+    /// passes each of its elements once. Does not allocate.
     ///
     /// # Complexity
     ///
@@ -298,8 +299,8 @@ impl Monitor {
         ensures refused { result.refused ≡ refused_count self.now.log }
         // The fault is that of the log's records: the first label that fails and the first condition that it violates.
         ensures fault { result.fault ≡ fault_in self.now.setup self.now.log }
-        // For a counter, an OR-Set or a list the fault is final: no sequence is an RA-linearization of the records up
-        // to its label, not even one that only extends visibility.
+        // For the kinds that do not go by timestamps the fault is final: no sequence is an RA-linearization of the
+        // records up to its label, not even one that only extends visibility.
         ensures final_fault { IsTrue (is_of_any_order self.now.setup.kind)
             → IsFinalFault self.now.setup self.now.log result.fault }
     {

@@ -12,7 +12,7 @@ use std::alloc::Global;
 /// The named order of a kind.
 #[derive(Drop)]
 pub enum Order {
-    /// Counter, OR-Set and list: execution order.
+    /// All other kinds: execution order.
     Execution(ExecOrder),
     /// Register, LWW set and RGA: timestamp order.
     Time(TimeOrder),
@@ -28,7 +28,9 @@ impl Order {
         ensures { IfOk result (λ order. IsOrderOf order (empty_history kind replicas)) }
     {
         match kind {
-            Kind::Counter | Kind::OrSet | Kind::List => Ok(Order::Execution(ExecOrder::new())),
+            Kind::Counter | Kind::OrSet | Kind::List | Kind::Any | Kind::MvRegister => {
+                Ok(Order::Execution(ExecOrder::new()))
+            }
             Kind::Register | Kind::LwwSet | Kind::Rga => {
                 Ok(Order::Time(TimeOrder::new(alloc, replicas)?))
             }

@@ -20,13 +20,14 @@ pub struct Report {
 }
 
 impl Report {
-    /// Returns `true` if there is a fault and the kind is counter, OR-Set or list. Such a fault in a monitor's report
-    /// is final: no sequence at all linearizes the records up to its label (`Monitor::report`, clause `final_fault`).
-    /// For the other kinds, an order other than the timestamp order might. Does not allocate.
+    /// Returns `true` if there is a fault and the kind does not go by timestamps: it is no register, LWW set or RGA.
+    /// Such a fault in a monitor's report is final: no sequence at all linearizes the records up to its label
+    /// (`Monitor::report`, clause `final_fault`). For the other kinds, an order other than the timestamp order might.
+    /// Does not allocate.
     pub fn is_final(&self) -> bool
-        // The result is `true` exactly if the report has a fault and the kind is counter, OR-Set or list.
+        // The result is `true` exactly if the report has a fault and the kind does not go by timestamps.
         ensures { result ≡ (is_some self.now.fault && is_of_any_order self.now.kind) }
     {
-        self.fault.is_some() && matches!(self.kind, Kind::Counter | Kind::OrSet | Kind::List)
+        self.fault.is_some() && !matches!(self.kind, Kind::Register | Kind::LwwSet | Kind::Rga)
     }
 }

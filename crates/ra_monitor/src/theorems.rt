@@ -42,8 +42,8 @@ pub fn reply_no_iff_fault()
         → IsLegalLog setup (before ++ entry ∷ after) → IsNoAtFault setup (before ++ entry ∷ []) entry.reply }
 {}
 
-/// Theorem: each `No` in a legal log of a counter, an OR-Set or a list is final: no sequence at all linearizes the
-/// records up to its label.
+/// Theorem: each `No` in a legal log of a kind that does not go by timestamps is final: no sequence at all linearizes
+/// the records up to its label.
 pub fn reply_no_is_final()
     ensures { (setup : Setup) (before after : List MonitorEntry) (entry : MonitorEntry)
         → IsTrue (is_of_any_order setup.kind) → IsLegalLog setup (before ++ entry ∷ after)
@@ -52,7 +52,7 @@ pub fn reply_no_is_final()
 
 /// Theorem: in a log that is legal for a monitor as a journal, each reply is the single-threaded monitor's answer after
 /// the entries before it. If it is `Yes`, the records up to there have an RA-linearization. It is `No` exactly at the
-/// fault, which is final for a counter, an OR-Set or a list.
+/// fault, which is final for the kinds that do not go by timestamps.
 pub fn replies_under_lock()
     ensures reply { (setup : Setup) (before after : List MonitorEntry) (entry : MonitorEntry)
         → IsLegal (journal.ghosts.reply_of setup) (before ++ entry ∷ after)

@@ -20,6 +20,7 @@ pub enum UniqueKey {
 impl UniqueKey {
     /// Returns the key of the label that the replica's operation becomes with this clock.
     pub fn by(replica: u8, op: &Op, clock: Option<u32>) -> UniqueKey
+        // The result is the key of the operation in the definitions: its identifier, or else its stamp.
         ensures { result ≡ key_of (next_operation replica op.now clock) }
     {
         match (identifier_of(op), clock) {

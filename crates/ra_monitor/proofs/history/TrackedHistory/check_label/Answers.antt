@@ -24,7 +24,7 @@ returns-in-None-clause-answered c = λ past next newest.
     let label = c.args.label.now in
     let brought = c.args.brought in
     let is : label.number ≡ label_count past.records = ap (λ (l : Label). l.number) newest.becomes in
-    let comes = comes_next self past next label brought c.vis-seen.result newest c.vis-seen.ensures.seen in
+    let comes = comes_next self past next label brought c.vis-seen.result newest c.vis-seen.ensures.seen c.vis-seen.ensures.issued in
     let because : None ≡ cause_of past.kind (operate next ∷ past.records) =
     ap (option_map (λ (f : Failure). f.cause)) (sym c.in-None.is) ∙ c.in_ok-failure.ensures.cause past next newest.witness comes in
     let witness = c.in_ok-failure.ensures.taken past next newest.witness comes (ap Ok c.in-None.is) in
@@ -43,7 +43,7 @@ returns-in-Some-clause-answered c = λ past next newest.
     let label = c.args.label.now in
     let brought = c.args.brought in
     let is : label.number ≡ label_count past.records = ap (λ (l : Label). l.number) newest.becomes in
-    let comes = comes_next self past next label brought c.vis-seen.result newest c.vis-seen.ensures.seen in
+    let comes = comes_next self past next label brought c.vis-seen.result newest c.vis-seen.ensures.seen c.vis-seen.ensures.issued in
     let why = c.in-Some.failure.cause in
     let because : Some why ≡ cause_of past.kind (operate next ∷ past.records) =
     ap (option_map (λ (f : Failure). f.cause)) (sym c.in-Some.is) ∙ c.in_ok-failure.ensures.cause past next newest.witness comes in
@@ -52,3 +52,14 @@ returns-in-Some-clause-answered c = λ past next newest.
       c.no_reply.ensures ∙ reply_to past.kind past.records next (Some why) label.number newest.none because is,
       stands_failed self _ past next label brought why newest because shown witness refl refl refl refl refl,
     )
+
+pub offer-requires-after_bounds : goal.offer-requires-after_bounds
+offer-requires-after_bounds c κs =
+    let r = c.requires in
+    record {
+      past = r.past;
+      next = r.next;
+      stands = r.newest.witness;
+      comes = comes_next c.args.self.now r.past r.next c.args.label.now c.args.brought c.vis-seen.result r.newest c.vis-seen.ensures.seen c.vis-seen.ensures.issued;
+      few = r.few;
+    }

@@ -1,4 +1,4 @@
-use Rattle.std.proofs.Common.{◌≡◌, subst}
+use Rattle.std.proofs.Common.{subst}
 use Rattle.ra_labels.specs.Edges.{IsCycle}
 use Rattle.ra_labels.specs.ListHistory.{required_edges}
 use Rattle.ra_monitor.specs.Monitor.{Monitor, records_of, IsOrderFault}
