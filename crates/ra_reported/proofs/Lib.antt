@@ -1,0 +1,4 @@
+pub mod Listed
+pub mod Readings
+pub mod Records
+pub mod LabelPlaces
