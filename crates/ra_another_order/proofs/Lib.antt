@@ -1,0 +1,2 @@
+pub mod ReportedLabels
+pub mod ListedOperations
