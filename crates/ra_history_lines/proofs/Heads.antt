@@ -48,7 +48,13 @@ spelled_found spelling line kind e =
               | inl is ↦ kind_is spelling line Rga kind is.0 is.1
               | inr not_rga ↦ elim (chosen (bytes_eq line (spelling kinds.List)) _ _ _ not_rga.1) [
                 | inl is ↦ kind_is spelling line kinds.List kind is.0 is.1
-                | inr none ↦ absurd (let never = none.1 in cc)
+                | inr not_list ↦ elim (chosen (bytes_eq line (spelling kinds.Any)) _ _ _ not_list.1) [
+                  | inl is ↦ kind_is spelling line kinds.Any kind is.0 is.1
+                  | inr not_any ↦ elim (chosen (bytes_eq line (spelling kinds.MvRegister)) _ _ _ not_any.1) [
+                    | inl is ↦ kind_is spelling line kinds.MvRegister kind is.0 is.1
+                    | inr none ↦ absurd (let never = none.1 in cc)
+                  ]
+                ]
               ]
             ]
           ]

@@ -16,8 +16,8 @@ use Rattle.ra_labels.specs.declared.list_operation.ListOp.{ListOp}
 use Rattle.ra_labels.specs.declared.list_operation.ListOp.TheVariants as list_op
 use Rattle.ra_history_lines.specs.Grammar.{IsSmall, list_word, value_word, marked, has_words, operation_fields, HasSmallNumbers, HasSmallElements}
 use Rattle.ra_history_lines.specs.Reading.{number_read, signed_read, list_read, value_read, number_first, mark_first}
-use Rattle.ra_history_lines.specs.Reading.{behind_first, query_read, read_first, write_first, addition_read, add_first}
-use Rattle.ra_history_lines.specs.Reading.{plain_removal, removal_read, remove_first, after_first, insertion_of, insert_first, part_first, own_word_first, word_first}
+use Rattle.ra_history_lines.specs.Reading.{behind_first, query_read, read_first, write_of, write_first, addition_read, add_first}
+use Rattle.ra_history_lines.specs.Reading.{plain_removal, removal_read, remove_first, after_first, insertion_of, insert_first, part_first, own_word_first, update_first, word_first}
 use Rattle.ra_labels.specs.Answer.{is_kind}
 use Rattle.ra_labels.proofs.SameKind.{same_kind}
 use Rattle.ra_history_lines.proofs.Numbers.{not_number, number_read-Some, number_read-decimal, signed_read-Some, signed_read-decimal}
@@ -104,6 +104,15 @@ query_found kinds.List field found e =
     let m = mapped (λ list. op.List (list_op.Read list)) (list_read field) found e in
     let says = list_read-Some field m.0 m.1 in
     subst (IsReadOf kinds.List field) m.2 (refl, says.1, ap (λ (f : List ℕ). codes "read" ∷ f ∷ []) (sym says.0))
+query_found kinds.Any field found e =
+    let m = mapped (λ value. op.AnyRead value) (number_read field) found e in
+    let says = number_read-Some field m.0 m.1 in
+    subst (IsReadOf kinds.Any field) m.2 (refl, says.1, ap (λ (f : List ℕ). codes "read" ∷ f ∷ []) (sym says.0))
+query_found kinds.MvRegister field found e =
+    let m = mapped (λ list. op.MvRead list) (list_read field) found e in
+    let says = list_read-Some field m.0 m.1 in
+    subst (IsReadOf kinds.MvRegister field) m.2
+    (refl, says.1, ap (λ (f : List ℕ). codes "read" ∷ f ∷ []) (sym says.0))
 
 read_found : (kind : Kind) (fields : List (List ℕ)) (r : Op × List (List ℕ)) → read_first kind fields ≡ Some r
     → AreOf kind (codes "read" ∷ fields) r
@@ -114,13 +123,20 @@ read_found kind (field ∷ fields) r e =
     subst (AreOf kind (codes "read" ∷ field ∷ fields)) m.2
     (record { own = says.0; small = says.1; words = ap (λ (fs : List (List ℕ)). fs ++ fields) (sym says.2) })
 
-write_found : (kind : Kind) (fields : List (List ℕ)) (r : Op × List (List ℕ)) → write_first fields ≡ Some r
+-- a write is that of the kind
+written_of : (kind : Kind) (value : ℕ) (rest : List (List ℕ)) → IsSmall value
+    → AreOf kind (codes "write" ∷ decimal value ∷ rest) (write_of kind value, rest)
+written_of kinds.MvRegister value rest small = record { own = refl; small = small; words = refl }
+written_of _ value rest small = record { own = refl; small = small; words = refl }
+
+write_found : (kind : Kind) (fields : List (List ℕ)) (r : Op × List (List ℕ)) → write_first kind fields ≡ Some r
     → AreOf kind (codes "write" ∷ fields) r
 write_found kind fields r e =
-    let m = mapped (λ n. (Write n.0, n.1)) (number_first fields) r e in
+    let m = mapped (λ n. (write_of kind n.0, n.1)) (number_first fields) r e in
     let says = number_first-Some fields m.0 m.1 in
     subst (AreOf kind (codes "write" ∷ fields)) m.2
-    (record { own = refl; small = says.1; words = ap (λ (fs : List (List ℕ)). codes "write" ∷ fs) says.0 })
+    (subst (λ (fs : List (List ℕ)). AreOf kind (codes "write" ∷ fs) (write_of kind m.0.0, m.0.1)) (sym says.0)
+    (written_of kind m.0.0 m.0.1 says.1))
 
 addition_found : (kind : Kind) (x : ℕ) (fields : List (List ℕ)) (word : Option (List ℕ)) (r : Op × List (List ℕ))
     → IsSmall x → mark_first fields ≡ word
@@ -257,6 +273,16 @@ listed_found : (kind : Kind) (word : List ℕ) (fields : List (List ℕ)) (r : O
 listed_found kind word fields r is e =
     subst (λ (k : Kind). AreOf k (word ∷ fields) r) (same_kind kind kinds.List is) (own_word_found word fields r e)
 
+-- a word that only an object of any type has
+update_found : (kind : Kind) (word : List ℕ) (fields : List (List ℕ)) (r : Op × List (List ℕ))
+    → is_kind kind kinds.Any ≡ true → update_first word fields ≡ Some r → AreOf kind (word ∷ fields) r
+update_found kind word fields r is e =
+    elim (chosen (bytes_eq word (codes "update")) _ _ _ e) [
+      | inl here ↦ at_word kind word (codes "update") fields r here.0
+          (bare_found kind (codes "update") fields op.AnyUpdate r is tt refl here.1)
+      | inr none ↦ absurd (let never = none.1 in cc)
+    ]
+
 pub word_found : (kind : Kind) (word : List ℕ) (fields : List (List ℕ)) (r : Op × List (List ℕ))
     → word_first kind word fields ≡ Some r → AreOf kind (word ∷ fields) r
 word_found kind word fields r e =
@@ -278,7 +304,10 @@ word_found kind word fields r e =
                   | inl here ↦ at (codes "after") here.0 (after_found kind fields r here.1)
                   | inr e8 ↦ elim (chosen (is_kind kind kinds.List) _ _ _ e8.1) [
                     | inl here ↦ listed_found kind word fields r here.0 here.1
-                    | inr none ↦ absurd (let never = none.1 in cc)
+                    | inr e9 ↦ elim (chosen (is_kind kind kinds.Any) _ _ _ e9.1) [
+                      | inl here ↦ update_found kind word fields r here.0 here.1
+                      | inr none ↦ absurd (let never = none.1 in cc)
+                    ]
                   ]
                 ]
               ]
@@ -343,6 +372,10 @@ own_word_only (list_op.Remove x) small rest unmarked = rw (number_read-decimal x
 own_word_only (list_op.Read list) small rest unmarked = rw (list_read-word list small) refl
 own_word_only (list_op.Part list) small rest unmarked = rw (list_read-word list small) refl
 
+from_not_false : (b : Bool) → not b ≡ true → b ≡ false
+from_not_false true is = sym is
+from_not_false false is = refl
+
 pub word_only : (kind : Kind) (op : Op) → has_words op kind ≡ true → HasSmallNumbers op → ReadsAs kind op
 word_only kind Inc own small rest unmarked = refl
 word_only kind Dec own small rest unmarked = refl
@@ -350,7 +383,8 @@ word_only kind (Count value) own small rest unmarked =
     subst (λ (k : Kind). word_first k (codes "read") (signed_decimal value ∷ rest) ≡ Some (Count value, rest))
     (same_kind kind Counter own)
     (rw (signed_read-decimal value small) refl)
-word_only kind (Write value) own small rest unmarked = rw (number_read-decimal value small) refl
+word_only kind (Write value) own small rest unmarked =
+    rw (number_read-decimal value small, from_not_false (is_kind kind kinds.MvRegister) own) refl
 word_only kind (Last value) own small rest unmarked =
     subst (λ (k : Kind). word_first k (codes "read") (value_word value ∷ rest) ≡ Some (Last value, rest))
     (same_kind kind Register own)
@@ -383,3 +417,17 @@ word_only kind (RgaRead list) own small rest unmarked =
 word_only kind (op.List operation) own small rest unmarked =
     subst (λ (k : Kind). word_first k (word_of (op.List operation)) (behind_word (op.List operation) ++ rest)
     ≡ Some (op.List operation, rest)) (same_kind kind kinds.List own) (own_word_only operation small rest unmarked)
+word_only kind op.AnyUpdate own small rest unmarked =
+    subst (λ (k : Kind). word_first k (codes "update") rest ≡ Some (op.AnyUpdate, rest)) (same_kind kind kinds.Any own) refl
+word_only kind (op.AnyRead value) own small rest unmarked =
+    subst (λ (k : Kind). word_first k (codes "read") (decimal value ∷ rest) ≡ Some (op.AnyRead value, rest))
+    (same_kind kind kinds.Any own)
+    (rw (number_read-decimal value small) refl)
+word_only kind (op.MvWrite value) own small rest unmarked =
+    subst (λ (k : Kind). word_first k (codes "write") (decimal value ∷ rest) ≡ Some (op.MvWrite value, rest))
+    (same_kind kind kinds.MvRegister own)
+    (rw (number_read-decimal value small) refl)
+word_only kind (op.MvRead values) own small rest unmarked =
+    subst (λ (k : Kind). word_first k (codes "read") (list_word values ∷ rest) ≡ Some (op.MvRead values, rest))
+    (same_kind kind kinds.MvRegister own)
+    (rw (list_read-word values small) refl)

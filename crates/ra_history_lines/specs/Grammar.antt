@@ -82,6 +82,8 @@ kind_word LwwSet = codes "lwwset"
 kind_word OrSet = codes "orset"
 kind_word Rga = codes "rga"
 kind_word kinds.List = codes "list"
+kind_word kinds.Any = codes "any"
+kind_word kinds.MvRegister = codes "mvregister"
 
 -- the beginning of a first line
 abbrev pub format_word : Format → List ℕ
@@ -118,13 +120,14 @@ marked word = 35 ∷ word
 -- ---- commands
 
 -- `true` if lines of this kind of history can spell the operation. A `read` is always the kind's own. A removal without
--- identifiers is an RGA's in an RGA, a list's in a list, and an LWW set's in each other kind. Only a list has
--- `insert` and `part`. All else can be spelled in every kind.
+-- identifiers is an RGA's in an RGA, a list's in a list, and an LWW set's in each other kind. A write is a multi-value
+-- register's in such a register, and a register's in each other kind. Only a list has `insert` and `part`, and only any
+-- type has `update`. All else can be spelled in every kind.
 abbrev pub has_words : Op → Kind → Bool
 has_words Inc kind = true
 has_words Dec kind = true
 has_words (Count value) kind = is_kind kind Counter
-has_words (Write value) kind = true
+has_words (Write value) kind = not (is_kind kind kinds.MvRegister)
 has_words (Last value) kind = is_kind kind Register
 has_words (LwwAdd x) kind = true
 has_words (LwwRemove x) kind = not (is_kind kind Rga || is_kind kind kinds.List)
@@ -136,6 +139,10 @@ has_words (After anchor x) kind = true
 has_words (RgaRemove x) kind = is_kind kind Rga
 has_words (RgaRead list) kind = is_kind kind Rga
 has_words (op.List operation) kind = is_kind kind kinds.List
+has_words op.AnyUpdate kind = is_kind kind kinds.Any
+has_words (op.AnyRead value) kind = is_kind kind kinds.Any
+has_words (op.MvWrite value) kind = is_kind kind kinds.MvRegister
+has_words (op.MvRead values) kind = is_kind kind kinds.MvRegister
 
 -- the fields of a list's operation, with its return value
 abbrev pub list_operation_fields : ListOp → List (List ℕ)
@@ -162,6 +169,10 @@ operation_fields (After anchor x) = codes "after" ∷ decimal anchor ∷ decimal
 operation_fields (RgaRemove x) = codes "remove" ∷ decimal x ∷ []
 operation_fields (RgaRead list) = codes "read" ∷ list_word list ∷ []
 operation_fields (op.List operation) = list_operation_fields operation
+operation_fields op.AnyUpdate = codes "update" ∷ []
+operation_fields (op.AnyRead value) = codes "read" ∷ decimal value ∷ []
+operation_fields (op.MvWrite value) = codes "write" ∷ decimal value ∷ []
+operation_fields (op.MvRead values) = codes "read" ∷ list_word values ∷ []
 
 -- the field of a clock: a commercial at (byte 64) and the number; none without a clock
 abbrev pub clock_fields : Option ℕ → List (List ℕ)
@@ -193,6 +204,10 @@ HasSmallNumbers (After anchor x) = IsSmall anchor × IsSmall x
 HasSmallNumbers (RgaRemove x) = IsSmall x
 HasSmallNumbers (RgaRead list) = AllByRecursion IsSmall list
 HasSmallNumbers (op.List operation) = HasSmallElements operation
+HasSmallNumbers op.AnyUpdate = Unit {0}
+HasSmallNumbers (op.AnyRead value) = IsSmall value
+HasSmallNumbers (op.MvWrite value) = IsSmall value
+HasSmallNumbers (op.MvRead values) = AllByRecursion IsSmall values
 
 -- holds if the name is valid and represents the replica
 pub record NamesReplica (names : List (List ℕ)) (name : List ℕ) (replica : ℕ) : Type 0 where

@@ -30,6 +30,8 @@ kind_spelled spelling bytes =
     else if bytes_eq bytes (spelling OrSet) then Some OrSet
     else if bytes_eq bytes (spelling Rga) then Some Rga
     else if bytes_eq bytes (spelling kinds.List) then Some kinds.List
+    else if bytes_eq bytes (spelling kinds.Any) then Some kinds.Any
+    else if bytes_eq bytes (spelling kinds.MvRegister) then Some kinds.MvRegister
     else None
 
 -- the kind that a first line of this format names, if any
@@ -151,13 +153,19 @@ query_read LwwSet field = option_map (λ list. LwwRead list) (list_read field)
 query_read OrSet field = option_map (λ list. OrRead list) (list_read field)
 query_read Rga field = option_map (λ list. RgaRead list) (list_read field)
 query_read kinds.List field = option_map (λ list. op.List (list_op.Read list)) (list_read field)
+query_read kinds.Any field = option_map (λ value. op.AnyRead value) (number_read field)
+query_read kinds.MvRegister field = option_map (λ list. op.MvRead list) (list_read field)
 
 abbrev pub read_first : Kind → List (List ℕ) → Option (Rest Op)
 read_first kind [] = None
 read_first kind (field ∷ fields) = option_map (λ op. (op, fields)) (query_read kind field)
 
-abbrev pub write_first : List (List ℕ) → Option (Rest Op)
-write_first fields = option_map (λ n. (Write n.0, n.1)) (number_first fields)
+-- a write of the value, in a history of the kind
+abbrev pub write_of : Kind → ℕ → Op
+write_of kind value = if is_kind kind kinds.MvRegister then op.MvWrite value else Write value
+
+abbrev pub write_first : Kind → List (List ℕ) → Option (Rest Op)
+write_first kind fields = option_map (λ n. (write_of kind n.0, n.1)) (number_first fields)
 
 -- an addition of x, with an identifier if there is one
 abbrev pub addition_read : ℕ → List (List ℕ) → Option (List ℕ) → Option (Rest Op)
@@ -175,6 +183,8 @@ plain_removal Register x = LwwRemove x
 plain_removal LwwSet x = LwwRemove x
 plain_removal OrSet x = LwwRemove x
 plain_removal kinds.List x = op.List (list_op.Remove x)
+plain_removal kinds.Any x = LwwRemove x
+plain_removal kinds.MvRegister x = LwwRemove x
 
 -- a removal of x, with identifiers if there are any
 abbrev pub removal_read : Kind → ℕ → List (List ℕ) → Option (List ℕ) → Option (Rest Op)
@@ -210,17 +220,22 @@ own_word_first word fields =
     else if bytes_eq word (codes "part") then part_first fields
     else None
 
+-- an update of any type
+abbrev pub update_first : List ℕ → List (List ℕ) → Option (Rest Op)
+update_first word fields = if bytes_eq word (codes "update") then Some (op.AnyUpdate, fields) else None
+
 -- an operation, from its first word
 abbrev pub word_first : Kind → List ℕ → List (List ℕ) → Option (Rest Op)
 word_first kind word fields =
     if bytes_eq word (codes "inc") then Some (Inc, fields)
     else if bytes_eq word (codes "dec") then Some (Dec, fields)
     else if bytes_eq word (codes "read") then read_first kind fields
-    else if bytes_eq word (codes "write") then write_first fields
+    else if bytes_eq word (codes "write") then write_first kind fields
     else if bytes_eq word (codes "add") then add_first fields
     else if bytes_eq word (codes "remove") then remove_first kind fields
     else if bytes_eq word (codes "after") then after_first fields
     else if is_kind kind kinds.List then own_word_first word fields
+    else if is_kind kind kinds.Any then update_first word fields
     else None
 
 -- ---- commands
@@ -293,6 +308,8 @@ reads_list LwwSet = true
 reads_list OrSet = true
 reads_list Rga = true
 reads_list kinds.List = true
+reads_list kinds.Any = false
+reads_list kinds.MvRegister = true
 
 -- `true` if this is the first word of an operation that may have a list, for which a reader allocates
 abbrev pub asks_for_list : Kind → List ℕ → Bool

@@ -13,6 +13,7 @@ use std::marker::Model;
 /// # Complexity
 ///
 /// O(length of what precedes the byte).
+#[inline(always)]
 pub fn cut_at(byte: u8, bytes: &[u8]) -> Option<(&[u8], &[u8])>
     // The result is what stands before and after the first occurrence of the byte, or `None` exactly if it does not
     // occur.

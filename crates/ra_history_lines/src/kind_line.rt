@@ -56,6 +56,10 @@ pub fn kind_of_word(word: &[u8]) -> Option<Kind>
         Some(Kind::Rga)
     } else if is_word(word, "list") {
         Some(Kind::List)
+    } else if is_word(word, "any") {
+        Some(Kind::Any)
+    } else if is_word(word, "mvregister") {
+        Some(Kind::MvRegister)
     } else {
         None
     }
@@ -73,5 +77,7 @@ pub fn kind_word(kind: Kind) -> &'static str
         Kind::OrSet => "orset",
         Kind::Rga => "rga",
         Kind::List => "list",
+        Kind::Any => "any",
+        Kind::MvRegister => "mvregister",
     }
 }

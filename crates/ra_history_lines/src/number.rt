@@ -101,6 +101,7 @@ fn below_zero(size: u32) -> Option<i32>
 /// # Errors
 ///
 /// `NoMemory` if an allocation fails; the buffer then begins with its former contents, and a part may follow.
+#[inline(always)]
 pub fn put_numbered(out: &mut Vec<u8>, words: &[u8], number: u32) -> Result<(), NoMemory>
     // After success, the words and the number's decimal digits are appended, and nothing else changed.
     ensures put { OnOk result (out.new.items ≡ out.old.items ++ (words.now ++ decimal number)) }
@@ -116,6 +117,7 @@ pub fn put_numbered(out: &mut Vec<u8>, words: &[u8], number: u32) -> Result<(), 
 /// # Errors
 ///
 /// `NoMemory` if an allocation fails; the buffer then begins with its former contents.
+#[inline(always)]
 pub fn put_number(out: &mut Vec<u8>, number: u32) -> Result<(), NoMemory>
     // After success, the number's decimal digits are appended, and nothing else changed.
     ensures put { OnOk result (out.new.items ≡ out.old.items ++ decimal number) }

@@ -3,7 +3,7 @@ ghost use Rattle.std.specs.Prelude.{◌≡◌, true, ℕ, List, Some, IfOk, OnEr
 ghost use Rattle.ra_labels.specs.declared.kind.Kind.TheVariants.{Counter, Register};
 ghost use Rattle.ra_labels.specs.declared.kind.Kind.TheVariants as kinds;
 ghost use Rattle.ra_labels.specs.Answer.{is_kind};
-ghost use Rattle.ra_history_lines.specs.Reading.{Reads, number_first, query_read, value_read, list_read, read_first, write_first, add_first, remove_first, plain_removal, after_first, insert_first, part_first, own_word_first, word_first, reads_list, asks_for_list};
+ghost use Rattle.ra_history_lines.specs.Reading.{Reads, number_first, query_read, value_read, list_read, read_first, write_first, add_first, remove_first, plain_removal, after_first, insert_first, part_first, own_word_first, update_first, word_first, reads_list, asks_for_list};
 
 use crate::fields::Fields;
 use crate::list::list;
@@ -38,7 +38,7 @@ pub fn operation(
     } else if is_word(word, "read") {
         read(alloc, kind, fields)
     } else if is_word(word, "write") {
-        Ok(write(fields))
+        Ok(write(kind, fields))
     } else if is_word(word, "add") {
         Ok(add(fields))
     } else if is_word(word, "remove") {
@@ -47,6 +47,8 @@ pub fn operation(
         Ok(after(fields))
     } else if kind == Kind::List {
         list_operation(alloc, word, fields)
+    } else if kind == Kind::Any {
+        Ok(update(word))
     } else {
         Ok(None)
     }
@@ -88,10 +90,13 @@ fn query(alloc: Global, kind: Kind, field: &[u8]) -> Result<Option<Op>, NoMemory
     match kind {
         Kind::Counter => Ok(count(field)),
         Kind::Register => Ok(last(field)),
-        Kind::LwwSet | Kind::OrSet | Kind::Rga | Kind::List => match list(alloc, field)? {
-            Some(elements) => Ok(Some(list_query(kind, elements))),
-            None => Ok(None),
-        },
+        Kind::Any => Ok(any_value(field)),
+        Kind::LwwSet | Kind::OrSet | Kind::Rga | Kind::List | Kind::MvRegister => {
+            match list(alloc, field)? {
+                Some(elements) => Ok(Some(list_query(kind, elements))),
+                None => Ok(None),
+            }
+        }
     }
 }
 
@@ -105,7 +110,8 @@ fn list_query(kind: Kind, elements: Elements) -> Op
         Kind::OrSet => Op::OrRead(elements),
         Kind::Rga => Op::RgaRead(elements),
         Kind::List => Op::List(ListOp::Read(elements)),
-        Kind::Counter | Kind::Register => unreachable!(),
+        Kind::MvRegister => Op::MvRead(elements),
+        Kind::Counter | Kind::Register | Kind::Any => unreachable!(),
     }
 }
 
@@ -114,6 +120,15 @@ fn count(field: &[u8]) -> Option<Op>
 {
     match signed_number(field) {
         Some(value) => Some(Op::Count(value)),
+        None => None,
+    }
+}
+
+fn any_value(field: &[u8]) -> Option<Op>
+    ensures { result ≡ query_read kinds.Any field.now }
+{
+    match number(field) {
+        Some(value) => Some(Op::AnyRead(value)),
         None => None,
     }
 }
@@ -149,12 +164,24 @@ fn next_number(fields: &mut Fields<'_>) -> Option<u32>
     }
 }
 
-fn write(fields: &mut Fields<'_>) -> Option<Op>
-    ensures { Reads (write_first fields.old) result fields.new }
+fn write(kind: Kind, fields: &mut Fields<'_>) -> Option<Op>
+    ensures { Reads (write_first kind fields.old) result fields.new }
 {
     match next_number(fields) {
+        Some(value) if kind == Kind::MvRegister => Some(Op::MvWrite(value)),
         Some(value) => Some(Op::Write(value)),
         None => None,
+    }
+}
+
+// Reads an operation whose word only an object of any type has. No field follows it.
+fn update(word: &[u8]) -> Option<Op>
+    ensures { (fields : List (List ℕ)) → Reads (update_first word.now fields) result fields }
+{
+    if is_word(word, "update") {
+        Some(Op::AnyUpdate)
+    } else {
+        None
     }
 }
 
@@ -194,7 +221,12 @@ fn plain_removal(kind: Kind, element: u32) -> Op
     match kind {
         Kind::Rga => Op::RgaRemove(element),
         Kind::List => Op::List(ListOp::Remove(element)),
-        Kind::Counter | Kind::Register | Kind::LwwSet | Kind::OrSet => Op::LwwRemove(element),
+        Kind::Counter
+        | Kind::Register
+        | Kind::LwwSet
+        | Kind::OrSet
+        | Kind::Any
+        | Kind::MvRegister => Op::LwwRemove(element),
     }
 }
 

@@ -71,7 +71,9 @@ fn spell_end(out: &mut Vec<u8>, labels: u32, fault: Option<Fault>) -> Result<(),
     }
 }
 
-// Appends the words, the number and a line feed.
+// Appends the words, the number and a line feed. Inlined, so that the words have a constant length and are copied
+// without a call.
+#[inline(always)]
 fn put_counted(out: &mut Vec<u8>, words: &[u8], number: u32) -> Result<(), NoMemory>
     ensures put { OnOk result (out.new.items ≡ out.old.items ++ (words.now ++ (decimal number ++ 10 ∷ []))) }
     ensures part { OnErr result (BeginsWith out.old.items out.new.items) }

@@ -43,6 +43,7 @@ impl Stage {
     }
 
     // Takes a whole line, and appends the line of its reply, if it has one.
+    #[inline(always)]
     fn take_line(&mut self, line: &[u8], out: &mut Vec<u8>) -> Result<(), CheckFault>
         ensures taken { OnOk result (line_taken (said_at self.old) line.now ≡ Ok (line_start (said_at self.new))) }
         ensures replied { OnOk result (AddsReplies (said_at self.old) (said_at self.new)
@@ -141,6 +142,7 @@ fn take_command(history: &mut Recording, line: &[u8], out: &mut Vec<u8>) -> Resu
 
 // Takes a whole line. A line that stops the text is kept for the callers of `line_so_far`; it is not kept if its
 // allocation fails.
+#[inline(always)]
 fn take_or_keep(
     stage: &mut Stage,
     partial: &mut Vec<u8>,

@@ -9,7 +9,7 @@ use Rattle.ra_labels.specs.declared.kind.Kind.{Kind}
 use Rattle.ra_labels.specs.declared.kind.Kind.TheVariants.{Rga}
 use Rattle.ra_labels.specs.declared.kind.Kind.TheVariants as kinds
 use Rattle.ra_labels.specs.declared.operation.Op.{Op}
-use Rattle.ra_labels.specs.declared.operation.Op.TheVariants.{LwwRemove}
+use Rattle.ra_labels.specs.declared.operation.Op.TheVariants.{Write, LwwRemove}
 use Rattle.ra_labels.specs.declared.command.Command.{Command}
 use Rattle.ra_labels.specs.declared.command.Command.TheVariants.{Operate, Deliver, Join, Verdict}
 use Rattle.ra_labels.specs.declared.refusal.Refusal.{Refusal}
@@ -88,6 +88,8 @@ first_none true why later e = absurd cc
 first_none false why later e = (refl, e)
 
 own_words : (op : Op) (kind : Kind) → is_kind kind (kind_of op) ≡ true → has_words op kind ≡ true
+own_words (Write value) kinds.MvRegister e = absurd cc
+own_words (Write value) _ e = refl
 own_words (LwwRemove x) Rga e = absurd cc
 own_words (LwwRemove x) kinds.List e = absurd cc
 own_words (LwwRemove x) _ e = refl

@@ -151,6 +151,10 @@ plain_operation (After anchor x) small =
 plain_operation (RgaRemove x) small = (plain_word (codes "remove") refl, (plain_number x small, tt))
 plain_operation (RgaRead list) small = (plain_word (codes "read") refl, (plain_list list small, tt))
 plain_operation (op.List operation) small = plain_list_operation operation small
+plain_operation op.AnyUpdate small = (plain_word (codes "update") refl, tt)
+plain_operation (op.AnyRead value) small = (plain_word (codes "read") refl, (plain_number value small, tt))
+plain_operation (op.MvWrite value) small = (plain_word (codes "write") refl, (plain_number value small, tt))
+plain_operation (op.MvRead values) small = (plain_word (codes "read") refl, (plain_list values small, tt))
 
 pub plain_clock : (clock : Option ℕ) → IfSome clock IsSmall → ArePlain (clock_fields clock)
 plain_clock None small = tt

@@ -62,8 +62,12 @@ fn operation_size(op: &Op) -> u128
         Op::Inc | Op::Dec => 4,
         Op::Count(value) => 6 + signed_size(*value),
         Op::Last(value) => 6 + value_size(*value),
-        Op::LwwRead(list) | Op::OrRead(list) | Op::RgaRead(list) => 6 + list_size(list.as_slice()),
-        Op::Write(value) => 7 + number_size(*value),
+        Op::LwwRead(list) | Op::OrRead(list) | Op::RgaRead(list) | Op::MvRead(list) => {
+            6 + list_size(list.as_slice())
+        }
+        Op::AnyUpdate => 7,
+        Op::AnyRead(value) => 6 + number_size(*value),
+        Op::Write(value) | Op::MvWrite(value) => 7 + number_size(*value),
         Op::LwwAdd(element) => 5 + number_size(*element),
         Op::OrAdd { element, id } => 7 + number_size(*element) + number_size(*id),
         Op::LwwRemove(element) | Op::RgaRemove(element) => 8 + number_size(*element),

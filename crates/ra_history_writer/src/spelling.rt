@@ -107,11 +107,13 @@ fn put_operation(out: &mut Vec<u8>, op: &Op) -> Result<(), NoMemory>
             out.extend_from_slice(b" read ")?;
             put_value(out, *value)
         }
-        Op::LwwRead(list) | Op::OrRead(list) | Op::RgaRead(list) => {
+        Op::LwwRead(list) | Op::OrRead(list) | Op::RgaRead(list) | Op::MvRead(list) => {
             out.extend_from_slice(b" read ")?;
             put_list(out, list)
         }
-        Op::Write(value) => put_numbered(out, b" write ", *value),
+        Op::AnyUpdate => Ok(out.extend_from_slice(b" update")?),
+        Op::AnyRead(value) => put_numbered(out, b" read ", *value),
+        Op::Write(value) | Op::MvWrite(value) => put_numbered(out, b" write ", *value),
         Op::LwwAdd(element) => put_numbered(out, b" add ", *element),
         Op::OrAdd { element, id } => {
             put_numbered(out, b" add ", *element)?;
