@@ -31,6 +31,8 @@ yes_text LwwSet calls labels refused fault = refl
 yes_text OrSet calls labels refused fault = refl
 yes_text Rga calls labels refused fault = refl
 yes_text kinds.List calls labels refused fault = refl
+yes_text kinds.Any calls labels refused fault = refl
+yes_text kinds.MvRegister calls labels refused fault = refl
 
 no_text : (kind : Kind) (cause : Cause) (label calls labels refused : ℕ) (fault : Option Fault)
     → HasText (report_of kind calls labels refused fault) (Some (record { label = label; cause = cause }))
@@ -53,6 +55,12 @@ no_text Rga Query label calls labels refused fault = refl
 no_text kinds.List Order label calls labels refused fault = refl
 no_text kinds.List Update label calls labels refused fault = refl
 no_text kinds.List Query label calls labels refused fault = refl
+no_text kinds.Any Order label calls labels refused fault = refl
+no_text kinds.Any Update label calls labels refused fault = refl
+no_text kinds.Any Query label calls labels refused fault = refl
+no_text kinds.MvRegister Order label calls labels refused fault = refl
+no_text kinds.MvRegister Update label calls labels refused fault = refl
+no_text kinds.MvRegister Query label calls labels refused fault = refl
 
 pub no_float : (report : Report) (fault : Option Fault) → has_float (members_data report fault) ≡ false
 no_float report None = refl

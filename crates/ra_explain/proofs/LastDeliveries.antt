@@ -11,7 +11,10 @@ use Rattle.ra_labels.specs.declared.kind.Kind.TheVariants.{Counter, OrSet}
 use Rattle.ra_labels.specs.declared.kind.Kind.TheVariants as kinds
 use Rattle.ra_labels.specs.declared.edge.Edge.{Edge}
 use Rattle.ra_labels.specs.Listing.{list_order_of}
-use Rattle.ra_labels.specs.ListHistory.{inserted_by, inserted_elements, edges_required_by, required_edges, keeps_an_order}
+use Rattle.ra_labels.specs.ListHistory.{inserted_by, inserted_elements, edges_required_by, required_edges}
+use Rattle.ra_labels.specs.Explained.{is_explained, unexplained_cause, value_read, value_written, values_listed}
+use Rattle.ra_any_model.proofs.TheoremIndex.{visibility_decides_agreement}
+use Rattle.ra_mvregister_model.proofs.TheoremIndex.{visibility_decides_reads}
 use Rattle.ra_labels.specs.declared.operation.Op.{Op}
 use Rattle.ra_labels.specs.declared.label.Label.{Label}
 use Rattle.ra_labels.specs.declared.command.Command.{Command}
@@ -80,6 +83,8 @@ same_rank : (kind : Kind) (one other : Records) (l : Label) → sight_of one ≡
 same_rank Counter one other l same = refl
 same_rank OrSet one other l same = refl
 same_rank kinds.List one other l same = refl
+same_rank kinds.Any one other l same = refl
+same_rank kinds.MvRegister one other l same = refl
 same_rank _ one other l same = ap (λ (s : Sight). unwrap_or l.stamp (greatest_stamp
     (filter (λ (seen : Label). s.sees l.number seen.number) s.labels))) same
 
@@ -130,20 +135,28 @@ edges_of_records (Operate by op clock ∷ before) =
     ap (λ es. es ++ edges_required_by (label_count before) op) (edges_of_records before)
 edges_of_records (_ ∷ before) = edges_of_records before
 
-same_kept_order : (kind : Kind) (one other : Records) → sight_of one ≡ sight_of other
-    → keeps_an_order kind one ≡ keeps_an_order kind other
-same_kept_order kinds.List one other same =
+same_explained : (kind : Kind) (one other : Records) → sight_of one ≡ sight_of other
+    → is_explained kind one ≡ is_explained kind other
+same_explained kinds.Any one other same =
+    visibility_decides_agreement value_read one other (ap (λ (s : Sight). s.labels) same)
+    (λ n m. ap (λ (s : Sight). s.sees n m) same)
+same_explained kinds.MvRegister one other same =
+    visibility_decides_reads value_written values_listed one other (ap (λ (s : Sight). s.labels) same)
+    (λ n m. ap (λ (s : Sight). s.sees n m) same)
+same_explained kinds.List one other same =
     ap (λ xs. is_some (list_order_of xs (required_edges one)))
     (elements_of_labels one ∙ ap (λ (s : Sight). elements_by s.labels) same ∙ sym (elements_of_labels other))
     ∙ ap (λ es. is_some (list_order_of (inserted_elements other) es))
     (edges_of_records one ∙ ap (λ (s : Sight). edges_by s.labels) same ∙ sym (edges_of_records other))
-same_kept_order _ one other same = refl
+same_explained _ one other same = refl
 
 same_cause : (kind : Kind) (one other : Records) → sight_of one ≡ sight_of other
     → cause_of kind one ≡ cause_of kind other
 same_cause kind one other same =
-    ap (λ o. option_or o (if keeps_an_order kind one then None else Some Order)) (same_sequence_cause kind one other same)
-    ∙ ap (λ b. option_or (sequence_cause kind other) (if b then None else Some Order)) (same_kept_order kind one other same)
+    ap (λ o. option_or o (if is_explained kind one then None else Some (unexplained_cause kind)))
+    (same_sequence_cause kind one other same)
+    ∙ ap (λ b. option_or (sequence_cause kind other) (if b then None else Some (unexplained_cause kind)))
+    (same_explained kind one other same)
 
 -- ---- everything but the updates delivered to the replica itself
 

@@ -1,5 +1,5 @@
 -- The edges that the labels of a log require of an order of a list's elements, and a conflict of such edges.
-use Rattle.std.specs.Prelude.{◌≡◌, ℕ, ◌⊎◌, Bool, true, false, List, [], length, take, flat_map, Option, IfSome, MatchOption}
+use Rattle.std.specs.Prelude.{◌≡◌, ℕ, ◌⊎◌, Bool, true, false, List, [], length, take, map, flat_map, Option, IfSome, MatchOption}
 use Rattle.std.specs.List.{range_with_len}
 use Rattle.std.specs.Option.{option_map_or}
 use Rattle.ra_labels.specs.declared.command.Command.{Command}
@@ -10,6 +10,7 @@ use Rattle.ra_labels.specs.declared.reply.Cause.{Cause}
 use Rattle.ra_labels.specs.declared.reply.Cause.TheVariants as causes
 use Rattle.ra_labels.specs.Edges.{IsCycle}
 use Rattle.ra_labels.specs.ListHistory.{edges_required_by}
+use Rattle.ra_labels.specs.TheoremTerms.{HasNoDuplicates}
 use Rattle.ra_monitor.specs.declared.setup.Setup.{Setup}
 use Rattle.ra_monitor.specs.Monitor.{MonitorEntry}
 use Rattle.ra_explain.specs.declared.changes.Change.TheVariants.{ComesBefore}
@@ -28,9 +29,13 @@ edges_at log places n = option_map_or (edges_required_by n) (operation_of log pl
 abbrev pub edges_of_labels : List MonitorEntry → List ℕ → List Edge
 edges_of_labels log places = flat_map (edges_at log places) (range_with_len 0 (length places))
 
--- holds if the list is empty, or a cycle of some of these edges
+-- the elements at which the edges begin
+abbrev pub starts_of : List Edge → List ℕ
+starts_of edges = map (λ edge. edge.before) edges
+
+-- holds if the list is empty, or a cycle of some of these edges that passes each of its elements once
 abbrev pub IsCycleOrNone : List Edge → List Edge → Type 0
-IsCycleOrNone edges cycle = (cycle ≡ []) ⊎ IsCycle edges cycle
+IsCycleOrNone edges cycle = (cycle ≡ []) ⊎ (IsCycle edges cycle × HasNoDuplicates (starts_of cycle))
 
 -- Holds if the command is answered `ok` after the accepted ones of the entries before this position. The change at the
 -- position leaves none of them out.

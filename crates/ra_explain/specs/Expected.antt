@@ -45,6 +45,8 @@ asking (ReadIds x ids) = op.OrRemove x ids
 asking (OrRead list) = op.OrRead list
 asking (RgaRead list) = op.RgaRead list
 asking (query.List asked) = op.List (asking_list asked)
+asking (query.AnyRead value) = op.AnyRead value
+asking (query.MvRead values) = op.MvRead values
 
 -- the operation with the expected answer of this state in place of what it returned; none if it has no query
 abbrev pub expected_in : State → Op → Option Op

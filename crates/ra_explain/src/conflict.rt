@@ -19,8 +19,8 @@ use std::collections::BTreeMap;
 /// The reason for a violation by the order of a list.
 #[derive(Drop)]
 pub struct Conflict {
-    /// A shortest cycle of the edges that the labels require, from an edge of the violating label on. Each edge has the
-    /// label that requires it. Empty if none was found.
+    /// A shortest cycle of the edges that the labels require, from an edge of the violating label on. It passes each of
+    /// its elements once. Each edge has the label that requires it. Empty if none was found.
     pub cycle: Vec<Edge>,
     /// The violating command with its elements in one of the orders in which it would hold, if that was found. An
     /// insertion names its left neighbour alone.
@@ -50,8 +50,9 @@ impl Conflict {
     ) -> Result<Conflict, NoMemory>
         // The places are those of the labels in the log.
         requires { places.now ≡ places_in log.now }
-        // The cycle consists of edges that labels require, the other command would hold, and the pairs are two elements
-        // that the violating label shows the other way round than another one, if there are any.
+        // The cycle consists of edges that labels require, and passes each of its elements once. The other command
+        // would hold. The pairs are two elements that the violating label shows the other way round than another one,
+        // if there are any.
         ensures { IfOk result (IsConflict setup.now log.now violation.now) }
     {
         let edges = edges_of_labels(alloc, log, places)?;

@@ -4,7 +4,7 @@ ghost use Rattle.ra_explain.specs.Conflicts.{IsCycleOrNone};
 
 use ra_labels::{Edge, NoMemory};
 use std::alloc::Global;
-use std::collections::BTreeMap;
+use std::collections::{BTreeMap, BTreeSet};
 
 /// Edges, which are found by the element at which they begin.
 #[derive(Drop)]
@@ -51,7 +51,7 @@ pub fn shortest_cycle(
     edges: &[Edge],
     through: &[usize],
 ) -> Result<Vec<Edge>, NoMemory>
-    // The result is empty or a cycle of the edges.
+    // The result is empty, or a cycle of the edges that passes each of its elements once.
     ensures { IfOk result (λ cycle. IsCycleOrNone edges.now cycle.items) }
 {
     let numbers = shortest_numbers(alloc, edges, through)?;
@@ -68,7 +68,8 @@ fn start_of(edges: &[Edge], number: usize) -> u32 {
     }
 }
 
-// Returns the edges with these indices if they lead from the element back to it, or else an empty list.
+// Returns the edges with these indices if they lead from the element back to it and pass no element twice, or else an
+// empty list.
 fn closed_walk(
     alloc: Global,
     edges: &[Edge],
@@ -78,10 +79,14 @@ fn closed_walk(
     ensures { IfOk result (λ cycle. IsCycleOrNone edges.now cycle.items) }
 {
     let mut walk = Vec::new(alloc);
+    let mut passed = BTreeSet::new(alloc);
     let mut at = start;
     for number in numbers {
         match edges.get(*number) {
             Some(edge) if edge.before == at => {
+                if !passed.insert(at)? {
+                    return Ok(Vec::new(alloc));
+                }
                 walk.push(*edge)?;
                 at = edge.after;
             }

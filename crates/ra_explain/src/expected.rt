@@ -102,6 +102,8 @@ fn asking(query: Query) -> Op
         Query::OrRead(list) => Op::OrRead(list),
         Query::RgaRead(list) => Op::RgaRead(list),
         Query::List(question) => Op::List(asking_list(question)),
+        Query::AnyRead(value) => Op::AnyRead(value),
+        Query::MvRead(values) => Op::MvRead(values),
     }
 }
 

@@ -96,8 +96,8 @@ impl Explanation {
         ensures violation { IfOk result (λ it. MatchOption it.violation (fault_in monitor.setup monitor.log ≡ None)
             (λ violation. IsFound monitor.setup monitor.log purpose violation)) }
         // There is a conflict exactly if the violation is one by the order of a list. Its cycle is one of edges that
-        // labels require, and its other command would hold. It has two elements that a label shows the other way round
-        // than the violating one exactly if there are any.
+        // labels require and passes each of its elements once, and its other command would hold. It has two elements
+        // that a label shows the other way round than the violating one exactly if there are any.
         ensures conflict { IfOk result (λ it. MatchOption it.violation (it.conflict ≡ None) (λ violation.
             HasConflict monitor.setup monitor.log violation it.conflict)) }
         // The remedies are exactly those of the tried changes with which the violating label would hold; without a

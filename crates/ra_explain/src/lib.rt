@@ -23,22 +23,24 @@ mod rejected;
 mod remedies;
 mod replica_state;
 mod spans;
-#[cfg(test)]
-mod tests;
 pub mod theorems;
 mod undelivered;
 mod unmet;
+mod unordered;
 mod violation;
 
 pub use agreement::Disagreement;
 pub use changes::{Change, would_hold};
 pub use conflict::Conflict;
+pub use cycle::shortest_cycle;
 pub use difference::Difference;
 pub use explanation::{Explanation, Purpose};
 pub use label_filter::{LabelsWith, labels_with};
+pub use ordering::positions_of;
 pub use origin::{Origin, operation_in};
 pub use places::Places;
 pub use remedies::Remedies;
 pub use undelivered::{Share, Undelivered};
 pub use unmet::{Unmet, named_by, needed_by};
+pub use unordered::{earlier_read, siblings_before};
 pub use violation::Violation;

@@ -106,7 +106,12 @@ fn most_tries(kind: Kind, place: u32) -> u32 {
     let most = MOST_STEPS / place.saturating_add(1);
     match kind {
         Kind::Rga | Kind::List => most.min(MOST_TRIES),
-        Kind::Counter | Kind::Register | Kind::LwwSet | Kind::OrSet => most,
+        Kind::Counter
+        | Kind::Register
+        | Kind::LwwSet
+        | Kind::OrSet
+        | Kind::Any
+        | Kind::MvRegister => most,
     }
 }
 

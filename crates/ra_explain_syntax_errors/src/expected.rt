@@ -47,7 +47,8 @@ impl Expected {
         match self {
             Expected::FirstWord => "RAH: the first line is RAH 1 or RAH 2, and a kind",
             Expected::FormatNumber => "1 or 2, the version of the format",
-            Expected::KindWord => "a kind: counter, register, lwwset, orset, rga or list",
+            Expected::KindWord =>
+                "a kind: counter, register, lwwset, orset, rga, list, any or mvregister",
             Expected::SecondWord =>
                 "replicas: the second line is this word and the replicas' names",
             Expected::NewName => {
@@ -96,5 +97,7 @@ fn operations_of(kind: Kind) -> &'static str {
         Kind::LwwSet | Kind::OrSet => "got, or an operation: add, remove, read",
         Kind::Rga => "got, or an operation: after, remove, read",
         Kind::List => "got, or an operation: insert, remove, read, part",
+        Kind::Any => "got, or an operation: update, read",
+        Kind::MvRegister => "got, or an operation: write, read",
     }
 }

@@ -165,6 +165,7 @@ fn in_act(kind: Kind, mut cursor: Cursor<'_>) -> Option<Trouble> {
         Some(b"after") => in_numbers(cursor, 2, Expected::Clock),
         Some(b"insert") if kind == Kind::List => in_numbers(cursor, 3, Expected::End),
         Some(b"part") if kind == Kind::List => in_part(cursor),
+        Some(b"update") if kind == Kind::Any => cursor.clock(Expected::End),
         Some(word) if has_number(word) => match cursor.number(meaning_behind(word)) {
             None => behind_number(kind, word, cursor),
             trouble => trouble,
@@ -194,6 +195,7 @@ fn behind_number(kind: Kind, word: &[u8], mut cursor: Cursor<'_>) -> Option<Trou
         b"got" => cursor.end(),
         b"add" => in_addition(kind, cursor),
         b"remove" => in_removal(kind, cursor),
+        b"write" if kind == Kind::MvRegister => cursor.clock(Expected::End),
         _ => cursor.clock(Expected::Clock),
     }
 }
@@ -205,9 +207,9 @@ fn in_read(kind: Kind, mut cursor: Cursor<'_>) -> Option<Trouble> {
             Expected::Signed,
         ),
         Kind::Register if !field.is_some_and(is_value) => cursor.trouble(Expected::Value),
-        Kind::LwwSet | Kind::OrSet | Kind::Rga | Kind::List if !field.is_some_and(is_list) => {
-            cursor.trouble(Expected::List)
-        }
+        Kind::LwwSet | Kind::OrSet | Kind::Rga | Kind::List | Kind::MvRegister
+            if !field.is_some_and(is_list) => { cursor.trouble(Expected::List) }
+        Kind::Any if field.and_then(number).is_none() => cursor.trouble(Expected::Number),
         _ => cursor.clock(Expected::End),
     }
 }
@@ -215,7 +217,7 @@ fn in_read(kind: Kind, mut cursor: Cursor<'_>) -> Option<Trouble> {
 fn in_addition(kind: Kind, mut cursor: Cursor<'_>) -> Option<Trouble> {
     let expected = match kind {
         Kind::OrSet => Expected::Identifier,
-        Kind::List => Expected::End,
+        Kind::List | Kind::Any | Kind::MvRegister => Expected::End,
         Kind::Counter | Kind::Register | Kind::LwwSet | Kind::Rga => Expected::Clock,
     };
     match cursor.take_marked() {
@@ -228,7 +230,7 @@ fn in_addition(kind: Kind, mut cursor: Cursor<'_>) -> Option<Trouble> {
 fn in_removal(kind: Kind, mut cursor: Cursor<'_>) -> Option<Trouble> {
     let expected = match kind {
         Kind::OrSet => Expected::Identifiers,
-        Kind::Rga | Kind::List => Expected::End,
+        Kind::Rga | Kind::List | Kind::Any | Kind::MvRegister => Expected::End,
         Kind::Counter | Kind::Register | Kind::LwwSet => Expected::Clock,
     };
     match cursor.take_marked() {

@@ -62,6 +62,8 @@ operations_of kind.LwwSet = codes "an LWW set's operations are add, remove and r
 operations_of kind.OrSet = codes "an OR-Set's operations are add, remove and read"
 operations_of kind.Rga = codes "a list's operations are after, remove and read"
 operations_of kind.List = codes "a list's operations are insert, remove, read and part"
+operations_of kind.Any = codes "the operations of any type are update and read"
+operations_of kind.MvRegister = codes "a multi-value register's operations are write and read"
 
 -- why this kind does not have the operation of the command
 abbrev pub wrong_kind : Kind → Command → List ℕ

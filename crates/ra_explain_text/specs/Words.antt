@@ -31,8 +31,13 @@ abbrev pub order_words : Kind → List ℕ
 order_words kinds.List = codes "no single order explains it with the lines before."
 order_words other = codes "its clock is not greater than each clock that it sees."
 
+-- what is wrong with the result of such a violation
+abbrev pub query_words : Kind → List ℕ
+query_words kinds.Any = codes "another read that sees the same updates returned another value."
+query_words other = codes "its result does not follow from the updates that it sees."
+
 abbrev pub reason_words : Kind → Cause → List ℕ
-reason_words kind cause.Query = codes "its result does not follow from the updates that it sees."
+reason_words kind cause.Query = query_words kind
 reason_words kind cause.Order = order_words kind
 reason_words kind cause.Update = codes "it cannot be applied at its position in the order."
 
@@ -51,6 +56,8 @@ reported_row names v = row (codes "reported") (act_words names v.reported)
 abbrev pub no_result_of : Op → List ℕ
 no_result_of (op.List (list.Insert insertion)) = codes "neighbours that its replica has received, or 0 for none"
 no_result_of (op.List (list.Remove x)) = codes "an element that its replica has received"
+no_result_of (op.AnyRead value) = codes "the value of the earlier read that sees the same updates"
+no_result_of (op.MvRead values) = codes "the values of the writes that it sees and that no other one of these saw"
 no_result_of other = codes "no result: the updates that it sees cannot be applied by themselves"
 
 abbrev pub no_result : Command → List ℕ

@@ -25,6 +25,7 @@ mod remedies;
 mod sequence;
 mod shares;
 mod unmet;
+mod unordered;
 mod view;
 
 pub use document::{put_document, put_escaped};

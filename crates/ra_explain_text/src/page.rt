@@ -88,9 +88,19 @@ fn reason(kind: Kind, cause: Cause) -> &'static str
     ensures { result.now ≡ words.reason_words kind cause }
 {
     match cause {
-        Cause::Query => "its result does not follow from the updates that it sees.",
+        Cause::Query => broken_query(kind),
         Cause::Order => broken_order(kind),
         Cause::Update => "it cannot be applied at its position in the order.",
+    }
+}
+
+// Returns what is wrong with the result of a violation with this cause.
+fn broken_query(kind: Kind) -> &'static str
+    ensures { result.now ≡ words.query_words kind }
+{
+    match kind {
+        Kind::Any => "another read that sees the same updates returned another value.",
+        _ => "its result does not follow from the updates that it sees.",
     }
 }
 
@@ -100,8 +110,7 @@ fn broken_order(kind: Kind) -> &'static str
 {
     match kind {
         Kind::List => "no single order explains it with the lines before.",
-        Kind::Counter | Kind::Register | Kind::LwwSet | Kind::OrSet | Kind::Rga =>
-            "its clock is not greater than each clock that it sees.",
+        _ => "its clock is not greater than each clock that it sees.",
     }
 }
 
@@ -157,6 +166,8 @@ fn no_result_of(op: &Op) -> &'static str
     match op {
         Op::List(ListOp::Insert(_)) => "neighbours that its replica has received, or 0 for none",
         Op::List(ListOp::Remove(_)) => "an element that its replica has received",
+        Op::AnyRead(_) => "the value of the earlier read that sees the same updates",
+        Op::MvRead(_) => "the values of the writes that it sees and that no other one of these saw",
         _ => "no result: the updates that it sees cannot be applied by themselves",
     }
 }

@@ -4,6 +4,7 @@ use crate::layout::{put, put_size};
 use crate::list_elements::{add_left_out, add_not_received, add_repeated, add_shown};
 use crate::notes::{Head, Note};
 use crate::unmet::add_unmet;
+use crate::unordered::{add_earlier_read, add_values};
 use crate::view::View;
 use ra_explain::{Difference, Violation, operation_in};
 use ra_history_lines::number::put_number;
@@ -26,8 +27,8 @@ pub fn add_query(
     }
 }
 
-// Adds the elements that an operation of a list names and its replica has not received, or, of another kind, what
-// makes each answer impossible.
+// Adds the elements that an operation of a list names and its replica has not received, or what a read of any type or
+// of a multi-value register is compared with, or, of another kind, what makes each answer impossible.
 fn add_impossible(
     notes: &mut Vec<Note>,
     view: &View<'_>,
@@ -35,6 +36,8 @@ fn add_impossible(
 ) -> Result<(), NoMemory> {
     match operation_in(&violation.reported) {
         Some(op) if is_of_list(op) => add_not_received(notes, view, violation, op),
+        Some(Op::AnyRead(_)) => add_earlier_read(notes, view, violation),
+        Some(Op::MvRead(values)) => add_values(notes, view, violation, values.as_slice()),
         _ => add_unmet(notes, view, violation),
     }
 }

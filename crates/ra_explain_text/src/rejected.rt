@@ -206,7 +206,9 @@ fn wrong_kind(kind: Kind, command: &Command) -> &'static str
                 operations_of(kind)
             }
         }
-        Kind::Counter | Kind::Register | Kind::Rga | Kind::List => operations_of(kind),
+        Kind::Counter | Kind::Register | Kind::Rga | Kind::List | Kind::Any | Kind::MvRegister => {
+            operations_of(kind)
+        }
     }
 }
 
@@ -226,6 +228,7 @@ fn is_clocked_op(op: &Op) -> bool
     match op {
         Op::LwwAdd(_) | Op::LwwRemove(_) => true,
         Op::List(_) => false,
+        Op::AnyUpdate | Op::AnyRead(_) | Op::MvWrite(_) | Op::MvRead(_) => false,
         Op::Inc | Op::Dec | Op::Count(_) | Op::Write(_) | Op::Last(_) | Op::LwwRead(_) => false,
         Op::OrAdd { .. } | Op::OrRemove { .. } | Op::OrRead(_) => false,
         Op::After { .. } | Op::RgaRemove(_) | Op::RgaRead(_) => false,
@@ -248,6 +251,7 @@ fn is_tagged_op(op: &Op) -> bool
     match op {
         Op::OrAdd { .. } | Op::OrRemove { .. } => true,
         Op::List(_) => false,
+        Op::AnyUpdate | Op::AnyRead(_) | Op::MvWrite(_) | Op::MvRead(_) => false,
         Op::Inc | Op::Dec | Op::Count(_) | Op::Write(_) | Op::Last(_) => false,
         Op::LwwAdd(_) | Op::LwwRemove(_) | Op::LwwRead(_) | Op::OrRead(_) => false,
         Op::After { .. } | Op::RgaRemove(_) | Op::RgaRead(_) => false,
@@ -264,6 +268,8 @@ fn operations_of(kind: Kind) -> &'static str
         Kind::OrSet => "an OR-Set's operations are add, remove and read",
         Kind::Rga => "a list's operations are after, remove and read",
         Kind::List => "a list's operations are insert, remove, read and part",
+        Kind::Any => "the operations of any type are update and read",
+        Kind::MvRegister => "a multi-value register's operations are write and read",
     }
 }
 
