@@ -18,4 +18,6 @@ IsFalsified (LwwRead list) told = told ≡ LwwRead (falsified_list list)
 IsFalsified (OrRead list) told = told ≡ OrRead (falsified_list list)
 IsFalsified (RgaRead list) told = told ≡ RgaRead (falsified_list list)
 IsFalsified (op.List (lists.Read list)) told = told ≡ op.List (lists.Read (falsified_list list))
+IsFalsified (op.AnyRead value) told = told ≡ op.AnyRead 4294967295
+IsFalsified (op.MvRead values) told = told ≡ op.MvRead (falsified_list values)
 IsFalsified update told = told ≡ update

@@ -4,8 +4,9 @@ ghost use Rattle.ra_bench.specs.Lies.{falsified_list, IsFalsified};
 
 use ra_labels::{Elements, ListOp, NoMemory, Op};
 
-/// One read of a run that is reported falsely. A counter's is one too high, a register's is 4,294,967,295, and a list
-/// has 4,294,967,295 at its end. If the replica does not read in that round, all reports are true.
+/// One read of a run that is reported falsely. A counter's is one too high, that of a register or of any type is
+/// 4,294,967,295, and a list has 4,294,967,295 at its end. If the replica does not read in that round, all reports are
+/// true.
 #[derive(Clone, Copy, Debug, PartialEq, Eq)]
 pub struct Lie {
     /// The replica whose read it is.
@@ -25,6 +26,8 @@ pub fn falsified(read: Op) -> Result<Op, NoMemory>
         Op::OrRead(list) => Op::OrRead(with_extra_element(list)?),
         Op::RgaRead(list) => Op::RgaRead(with_extra_element(list)?),
         Op::List(ListOp::Read(list)) => Op::List(ListOp::Read(with_extra_element(list)?)),
+        Op::AnyRead(_) => Op::AnyRead(u32::MAX),
+        Op::MvRead(list) => Op::MvRead(with_extra_element(list)?),
         update => update,
     })
 }

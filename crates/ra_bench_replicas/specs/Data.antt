@@ -12,3 +12,5 @@ kind_in (LwwSet lasts) = kind.LwwSet
 kind_in (OrSet pairs) = kind.OrSet
 kind_in (Rga list) = kind.Rga
 kind_in (form.List list) = kind.List
+kind_in (form.Any object) = kind.Any
+kind_in (form.MvRegister register) = kind.MvRegister

@@ -1,5 +1,5 @@
 -- The updates that a replica may make in a round.
-use Rattle.std.specs.Prelude.{ℕ, ◌+◌, ◌-◌, ◌*◌, ◌%◌, ◌^◌, min, ◌==◌, Bool, false, not, ◌&&◌}
+use Rattle.std.specs.Prelude.{ℕ, ◌+◌, ◌-◌, ◌*◌, ◌%◌, ◌^◌, min, ◌==◌, Bool, true, false, not, ◌&&◌}
 use Rattle.ra_labels.specs.declared.operation.Op.{Op}
 use Rattle.ra_labels.specs.declared.operation.Op.TheVariants.{Inc, Dec, Write, LwwAdd, LwwRemove, OrAdd, OrRemove, After, RgaRemove}
 use Rattle.ra_labels.specs.declared.operation.Op.TheVariants as op
@@ -38,4 +38,6 @@ is_of_turn turn (After anchor x) = x == own_number turn
 is_of_turn turn (RgaRemove x) = takes_out turn
 is_of_turn turn (op.List (list.Insert insertion)) = insertion.element == own_number turn
 is_of_turn turn (op.List (list.Remove x)) = takes_out turn
+is_of_turn turn op.AnyUpdate = true
+is_of_turn turn (op.MvWrite value) = value == own_number turn
 is_of_turn turn _ = false

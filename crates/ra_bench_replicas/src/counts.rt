@@ -1,5 +1,5 @@
 //! The number of updates of each replica that one replica has applied.
-ghost use Rattle.std.specs.Prelude.{◌≡◌, replicate, IfOk};
+ghost use Rattle.std.specs.Prelude.{◌≡◌, get_or, replicate, IfOk};
 ghost use Rattle.ra_bench_replicas.specs.Counts.{reach, counted};
 
 use ra_labels::NoMemory;
@@ -52,6 +52,16 @@ impl Counts {
         ensures { result.now ≡ self.now }
     {
         &self.counts
+    }
+
+    /// Returns the count of this replica, or 0 if there is none.
+    pub(crate) fn of(&self, replica: u8) -> u32
+        ensures { result ≡ get_or self.now replica 0 }
+    {
+        match self.counts.get(replica as usize) {
+            Some(count) => *count,
+            None => 0,
+        }
     }
 
     /// Returns `true` if, among the counts that both lists have, none of the others is greater than the one here.

@@ -1,13 +1,16 @@
-//! The data type of a replica: one of six.
+//! The data type of a replica: one of eight.
 ghost use Rattle.std.specs.Prelude.{◌≡◌, true, false, IfOk};
 ghost use Rattle.ra_labels.specs.Answer.{kind_of, has_rising_list};
 ghost use Rattle.ra_labels.specs.Visibility.{is_update};
 ghost use Rattle.ra_bench_replicas.specs.Turn.{is_of_turn};
 ghost use Rattle.ra_bench_replicas.specs.Data.{kind_in};
 
+use crate::any_object::AnyObject;
 use crate::counter::Counter;
+use crate::counts::Counts;
 use crate::fugue_list::FugueList;
 use crate::lww_set::LwwSet;
+use crate::mv_register::MvRegister;
 use crate::or_set::OrSet;
 use crate::register::Register;
 use crate::rga::Rga;
@@ -24,6 +27,8 @@ pub enum Data {
     OrSet(OrSet),
     Rga(Rga),
     List(FugueList),
+    Any(AnyObject),
+    MvRegister(MvRegister),
 }
 
 impl Data {
@@ -38,6 +43,8 @@ impl Data {
             Kind::OrSet => Data::OrSet(OrSet::new(alloc)),
             Kind::Rga => Data::Rga(Rga::new(alloc)?),
             Kind::List => Data::List(FugueList::new(alloc)?),
+            Kind::Any => Data::Any(AnyObject::new()),
+            Kind::MvRegister => Data::MvRegister(MvRegister::new(alloc)),
         })
     }
 
@@ -54,6 +61,8 @@ impl Data {
             Data::OrSet(set) => set.update(turn),
             Data::Rga(list) => list.update(turn),
             Data::List(list) => list.update(turn),
+            Data::Any(object) => Ok(object.update(turn)),
+            Data::MvRegister(register) => Ok(register.update(turn)),
         }
     }
 
@@ -70,11 +79,14 @@ impl Data {
             Data::OrSet(set) => set.read(),
             Data::Rga(list) => list.read(),
             Data::List(list) => list.read(),
+            Data::Any(object) => Ok(object.read()),
+            Data::MvRegister(register) => register.read(),
         }
     }
 
-    /// Applies an update that was made with this stamp, if it has one. An update of another kind changes nothing.
-    pub fn apply(&mut self, op: &Op, stamp: Stamp) -> Result<(), NoMemory>
+    /// Applies an update that was made with this stamp, if it has one, or with its replica. `had` counts the
+    /// updates of each replica that had been applied where it was made. An update of another kind changes nothing.
+    pub fn apply(&mut self, op: &Op, stamp: Stamp, had: &Counts) -> Result<(), NoMemory>
         ensures { kind_in self.new ≡ kind_in self.old }
     {
         match (op, self) {
@@ -93,6 +105,13 @@ impl Data {
             (Op::RgaRemove(element), Data::Rga(list)) => list.hide(*element),
             (Op::List(ListOp::Insert(insertion)), Data::List(list)) => list.insert(*insertion)?,
             (Op::List(ListOp::Remove(element)), Data::List(list)) => list.hide(*element),
+            (Op::AnyUpdate, Data::Any(object)) => object.apply(
+                stamp.replica,
+                had.of(stamp.replica),
+            ),
+            (Op::MvWrite(value), Data::MvRegister(register)) => {
+                register.write(*value, stamp.replica, had)?;
+            }
             _ => {}
         }
         Ok(())

@@ -1,7 +1,7 @@
 //! Replicas that represent real editors. Each has data of its own, makes updates, reads, and applies what others send
 //! once its causes are applied.
 //!
-//! They are written apart from the monitor, as an independent implementation of the six data types. They use neither
+//! They are written apart from the monitor, as an independent implementation of the eight data types. They use neither
 //! the sequential specification, nor the witness or the orders, nor any crate that does.
 //!
 //! The contract for the layers above: contracts view a `Replica` as its kind, its number, the number of replicas, the
@@ -13,12 +13,14 @@
 //! `specs/Data` and `specs/Turn`.
 #![tactic(auto)]
 
+mod any_object;
 mod counter;
 mod counts;
 mod data;
 mod fugue_list;
 mod lww_set;
 mod message;
+mod mv_register;
 mod or_set;
 mod register;
 mod replica;

@@ -110,7 +110,7 @@ impl Replica {
             clock: next,
             replica: self.number,
         };
-        self.data.apply(&op, stamp)?;
+        self.data.apply(&op, stamp, &had)?;
         self.applied.add(self.number);
         let clock = if is_stamped { Some(next) } else { None };
         self.clock = later_clock(self.clock, clock);
@@ -180,7 +180,7 @@ impl Replica {
             clock: message.made.clock.unwrap_or(0),
             replica: message.from,
         };
-        self.data.apply(&message.made.op, stamp)?;
+        self.data.apply(&message.made.op, stamp, &message.made.had)?;
         let message = self.held.remove(place);
         self.applied.add(message.from);
         self.clock = later_clock(self.clock, message.made.clock);

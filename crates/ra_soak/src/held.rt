@@ -65,6 +65,8 @@ impl Held {
             },
             (Kind::List, Some(element)) => Op::List(ListOp::Remove(element)),
             (Kind::List, None) => self.insertion(self.some_element(chance).unwrap_or(0)),
+            (Kind::Any, _) => Op::AnyUpdate,
+            (Kind::MvRegister, _) => Op::MvWrite(chance.below(VALUES)),
         })
     }
 
@@ -100,10 +102,18 @@ impl Held {
             Kind::OrSet => Op::OrRead(Elements::new(self.elements.clone()?)),
             Kind::Rga => Op::RgaRead(Elements::new(self.elements.clone()?)),
             Kind::List => Op::List(ListOp::Read(Elements::new(self.elements.clone()?))),
+            Kind::Any => Op::AnyRead(self.digest()),
+            Kind::MvRegister => Op::MvRead(listed(*self.elements.allocator(), self.last)?),
         })
     }
 
-    /// Returns a read with a wrong answer: a larger number, or an element that is never added.
+    // Returns a number for the updates of this replica: 0 if there are none, and else one that no other replica has.
+    fn digest(&self) -> u32 {
+        if self.made == 0 { 0 } else { self.fresh() }
+    }
+
+    /// Returns a read with a wrong answer: a larger number, or an element that is never added. Of any type it is right
+    /// where there are no updates, since other replicas see none either.
     pub fn lie(&self) -> Result<Op, AllocError> {
         let mut elements = self.elements.clone()?;
         elements.push(u32::MAX)?;
@@ -114,6 +124,9 @@ impl Held {
             Kind::OrSet => Op::OrRead(Elements::new(elements)),
             Kind::Rga => Op::RgaRead(Elements::new(elements)),
             Kind::List => Op::List(ListOp::Read(Elements::new(elements))),
+            Kind::Any if self.made == 0 => Op::AnyRead(0),
+            Kind::Any => Op::AnyRead(u32::MAX),
+            Kind::MvRegister => Op::MvRead(listed(*self.elements.allocator(), Some(VALUES))?),
         })
     }
 
@@ -122,7 +135,8 @@ impl Held {
         match op {
             Op::Inc => self.count = self.count.wrapping_add(1),
             Op::Dec => self.count = self.count.wrapping_sub(1),
-            Op::Write(value) => self.last = Some(*value),
+            Op::Write(value) | Op::MvWrite(value) => self.last = Some(*value),
+            Op::AnyUpdate | Op::AnyRead(_) | Op::MvRead(_) => {}
             Op::LwwAdd(element) | Op::OrAdd { element, .. } => self.elements.push(*element)?,
             Op::LwwRemove(element) | Op::OrRemove { element, .. } | Op::RgaRemove(element) => {
                 self.take_out(*element)
@@ -165,11 +179,23 @@ impl Held {
 fn adds(op: &Op) -> bool {
     matches!(
         op,
-        Op::LwwAdd(_) | Op::OrAdd { .. } | Op::After { .. } | Op::List(ListOp::Insert(_))
+        Op::LwwAdd(_)
+            | Op::OrAdd { .. }
+            | Op::After { .. }
+            | Op::List(ListOp::Insert(_))
+            | Op::AnyUpdate
     )
 }
 
-// Returns a list of one identifier.
+// Returns the list of the value, if there is one.
+fn listed(alloc: Global, value: Option<u32>) -> Result<Elements, AllocError> {
+    match value {
+        Some(value) => only(alloc, value),
+        None => Ok(Elements::new(Vec::new(alloc))),
+    }
+}
+
+// Returns a list of one number.
 fn only(alloc: Global, id: u32) -> Result<Elements, AllocError> {
     let mut ids = Vec::new(alloc);
     ids.push(id)?;

@@ -14,13 +14,15 @@ use std::sync::Wait;
 use std::thread::Threads;
 use std::time::{Clock, Duration, Instant};
 
-const KINDS: [Kind; 6] = [
+const KINDS: [Kind; 8] = [
     Kind::Counter,
     Kind::Register,
     Kind::LwwSet,
     Kind::OrSet,
     Kind::Rga,
     Kind::List,
+    Kind::Any,
+    Kind::MvRegister,
 ];
 
 // The counts of one round, or of all rounds.
