@@ -4,11 +4,15 @@
 #![tactic(auto)]
 
 #[cfg(test)]
+mod another_order;
+#[cfg(test)]
 mod commands;
 #[cfg(test)]
 mod costs;
 #[cfg(test)]
 mod counters;
+#[cfg(test)]
+mod cycles;
 #[cfg(test)]
 mod explained;
 #[cfg(test)]
@@ -24,6 +28,8 @@ mod lists;
 #[cfg(test)]
 mod or_sets;
 #[cfg(test)]
+mod reported;
+#[cfg(test)]
 mod room;
 #[cfg(test)]
 mod rows;
@@ -35,5 +41,7 @@ mod text;
 mod timestamps;
 #[cfg(test)]
 mod two_lists;
+#[cfg(test)]
+mod unordered;
 #[cfg(test)]
 mod visibility;

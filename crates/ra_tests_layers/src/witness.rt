@@ -225,22 +225,40 @@ fn worked_examples_are_answered(rt: HostRuntime) -> Result<(), Fail> {
     Ok(())
 }
 
-// A read that repeats the last one adds no edge, and the kept order is one that the edges allow.
+// Returns at how many places a read differs from the last one of the replica.
+fn changed_places(
+    rt: &impl Abort,
+    alloc: Global,
+    witness: &mut ListWitness,
+    replica: u8,
+    list: &[u32],
+) -> Result<usize, NoMemory> {
+    assert!(rt; (replica as usize) < witness.replicas());
+    match witness.check_read(alloc, replica, list)? {
+        Some(listed) => Ok(listed.places.len()),
+        None => panic!(rt; "the list is a read"),
+    }
+}
+
+// A read that repeats the last one of its replica adds no edge, and the kept order is one that the edges allow.
 #[test]
 fn a_repeated_read_adds_no_edge(rt: HostRuntime) -> Result<(), Fail> {
     let alloc = rt.alloc();
-    let mut witness = new(alloc, 2)?;
+    let mut witness = new(alloc, 1)?;
     let steps = [
         Step::Insert(0, 0, 1, 0),
         Step::Insert(0, 0, 2, 0),
         Step::Insert(0, 1, 3, 2),
-        Step::Read(0, &[1, 3, 2]),
-        Step::Read(0, &[1, 3, 2]),
+        Step::Join(0),
+        Step::Read(1, &[1, 3, 2]),
+        Step::Read(1, &[1, 3, 2]),
     ];
     for (label, step) in steps.iter().enumerate() {
         assert!(rt; make(&rt, alloc, &mut witness, *step, (label % 64) as u32)?.is_none());
     }
     assert_eq!(rt; witness.edge_count(), 2);
+    assert_eq!(rt; changed_places(&rt, alloc, &mut witness, 1, &[1, 3, 2])?, 0);
+    assert_eq!(rt; changed_places(&rt, alloc, &mut witness, 0, &[1, 3, 2])?, 2);
     let order = match witness.list_order(alloc) {
         Ok(order) => order,
         Err(_) => witness.list_order(alloc)?,

@@ -9,13 +9,15 @@ use std::process::Abort;
 const ROUNDS_OF_A_READ: u32 = 1_000;
 
 /// All kinds.
-pub const KINDS: [Kind; 6] = [
+pub const KINDS: [Kind; 8] = [
     Kind::Counter,
     Kind::Register,
     Kind::LwwSet,
     Kind::OrSet,
     Kind::Rga,
     Kind::List,
+    Kind::Any,
+    Kind::MvRegister,
 ];
 
 /// The text of a history that holds, as it is made, and what is written for it.
@@ -58,6 +60,8 @@ impl Crossing {
             Kind::OrSet => "orset",
             Kind::Rga => "rga",
             Kind::List => "list",
+            Kind::Any => "any",
+            Kind::MvRegister => "mvregister",
         };
         let mut made = Crossing {
             kind,
@@ -158,7 +162,7 @@ fn updates_of(round: u32) -> (Update, Update) {
     }
 }
 
-// Returns the body of a line. A register writes both inserted and removed numbers.
+// Returns the body of a line. Registers write both inserted and removed numbers.
 fn body(alloc: Global, kind: Kind, update: Update, clock: u64) -> Result<String, AllocError> {
     match (kind, update) {
         (Kind::Counter, Update::PutIn(_)) => String::from_str(alloc, "inc"),
@@ -174,6 +178,10 @@ fn body(alloc: Global, kind: Kind, update: Update, clock: u64) -> Result<String,
         (Kind::Rga, Update::TakeOut(number)) => numbered(alloc, "remove", number),
         (Kind::List, Update::PutIn(number)) => insertion(alloc, number),
         (Kind::List, Update::TakeOut(number)) => numbered(alloc, "remove", number),
+        (Kind::Any, _) => String::from_str(alloc, "update"),
+        (Kind::MvRegister, Update::PutIn(number) | Update::TakeOut(number)) => {
+            numbered(alloc, "write", number)
+        }
     }
 }
 
@@ -204,6 +212,7 @@ fn marked(
 
 // Returns what is read after a round of removals, where this was b's update. At one clock b's stamp is the greater one.
 // An RGA has its latest insertion at its beginning. The insertions of a list agree with each order that has 1 before 2.
+// No other read of any type sees the same updates. The two writes of a round are siblings, and a's has the next number.
 fn read_after(alloc: Global, kind: Kind, last: Update) -> Result<String, AllocError> {
     match kind {
         Kind::Counter => String::from_str(alloc, "read 4"),
@@ -213,6 +222,11 @@ fn read_after(alloc: Global, kind: Kind, last: Update) -> Result<String, AllocEr
         }
         Kind::LwwSet | Kind::OrSet | Kind::List => String::from_str(alloc, "read 1,2,3,4"),
         Kind::Rga => String::from_str(alloc, "read 4,3,2,1"),
+        Kind::Any => String::from_str(alloc, "read 7"),
+        Kind::MvRegister => {
+            let (Update::PutIn(number) | Update::TakeOut(number)) = last;
+            format!(in alloc; "read {number},{}", number.saturating_add(1))
+        }
     }
 }
 

@@ -72,7 +72,7 @@ pub const OF_SIXTY_FOUR: &str =
     n43 n44 n45 n46 n47 n48 n49 n50 n51 n52 n53 n54 n55 n56 n57 n58 n59 n60 n61 n62 n63\n";
 
 // Rejected commands are not written, nor are verdicts and lines after a violation.
-static ROWS: [Row; 18] = [
+static ROWS: [Row; 20] = [
     Row {
         names: ABC,
         first: 3,
@@ -163,6 +163,24 @@ a read 3,1,2\na remove 2\na part 1\nb insert 3 5 1\n",
         kind: Kind::List,
         told: "RAH 1 list\nreplicas a b c\na insert 0 1 0\na insert 1 2 0\na read 2,1\na read 1,2\n",
         written: "RAH 1 list\nreplicas a b c\na insert 0 1 0\na insert 1 2 0\na read 2,1\n",
+    },
+    Row {
+        names: ABC,
+        first: 3,
+        kind: Kind::Any,
+        told: "RAH 1 any\nreplicas a b c\na update\nb got 0\na read 7\nb read 7\nb write 3\nb update @1\nb update\n\
+a got 0\na got 3\nb read 7\na read 9\nverdict\n",
+        written: "RAH 1 any\nreplicas a b c\na update\nb got 0\na read 7\nb read 7\nb update\na got 3\nb read 7\n\
+a read 9\n",
+    },
+    Row {
+        names: ABC,
+        first: 3,
+        kind: Kind::MvRegister,
+        told: "RAH 1 mvregister\nreplicas a b c\na write 7\nb write 5\nb got 0\nb read 5,7\nb read 7,5\na inc\n\
+b write 9 @1\nb write 9\na got 1\na got 3\na read 9\nc read -\na read 7\n",
+        written: "RAH 1 mvregister\nreplicas a b c\na write 7\nb write 5\nb got 0\nb read 5,7\nb write 9\na got 1\n\
+a got 3\na read 9\nc read -\na read 7\n",
     },
     Row {
         names: ABC,

@@ -17,7 +17,7 @@ fn body(alloc: Global, op: &Op) -> Result<String, AllocError> {
         Op::Inc => String::from_str(alloc, "inc"),
         Op::Dec => String::from_str(alloc, "dec"),
         Op::Count(number) => format!(in alloc; "{number}"),
-        Op::Write(value) => format!(in alloc; "write {value}"),
+        Op::Write(value) | Op::MvWrite(value) => format!(in alloc; "write {value}"),
         Op::Last(None) => String::from_str(alloc, "none"),
         Op::Last(Some(value)) => format!(in alloc; "{value}"),
         Op::LwwAdd(element) => format!(in alloc; "add {element}"),
@@ -28,7 +28,11 @@ fn body(alloc: Global, op: &Op) -> Result<String, AllocError> {
             format!(in alloc; "remove {element} #{ids}")
         }
         Op::After { anchor, element } => format!(in alloc; "after {anchor} {element}"),
-        Op::LwwRead(list) | Op::OrRead(list) | Op::RgaRead(list) => numbers(alloc, list),
+        Op::LwwRead(list) | Op::OrRead(list) | Op::RgaRead(list) | Op::MvRead(list) => {
+            numbers(alloc, list)
+        }
+        Op::AnyUpdate => String::from_str(alloc, "update"),
+        Op::AnyRead(value) => format!(in alloc; "{value}"),
         Op::List(op) => list_body(alloc, op),
     }
 }
