@@ -66,7 +66,8 @@ WRONG = [
     (["bench", "--kidn", "rga"], "did you mean '--kind'?", "bench"),
     (["bench", *BENCH, "--kind", "rga"], "--kind is given twice", "bench"),
     (["bench", "--kind", "", *BENCH[2:]], "the value of --kind is empty", "bench"),
-    (["bench", "--kind", "set", *BENCH[2:]], "--kind is counter, register, lwwset, orset, rga or list, not 'set'", "bench"),
+    (["bench", "--kind", "set", *BENCH[2:]],
+     "--kind is counter, register, lwwset, orset, rga, list, any or mvregister, not 'set'", "bench"),
     *((["bench", *BENCH[:3], it, *BENCH[4:]], f"--replicas is a number from 1 to 16 without a leading zero, not '{it}'",
        "bench") for it in ("0", "17", "256", "03")),
     *((["bench", *BENCH[:5], it], f"--rounds is a number from 1 to 1000 without a leading zero, not '{it}'", "bench")
@@ -195,7 +196,7 @@ def the_help_has_each_word_of_the_format(repository):
     text = (reference / "text_format.md").read_text()
     table = text[text.index("| Body |"):].split("\n\n")[0]
     bodies = set(re.findall(r"^\| `([a-z]+)`", table, re.MULTILINE))
-    require(bodies == {"inc", "read", "write", "add", "remove", "after", "insert", "part"}, bodies)
+    require(bodies == {"inc", "read", "write", "add", "remove", "after", "insert", "part", "update"}, bodies)
     for word in (*bodies, *KINDS, "list", "verdict", "join", "got", "dec"):
         require(re.search(rf"\b{word}\b", pages["format"]), word)
 
@@ -295,7 +296,7 @@ def a_terminal_names_the_next_step(repository):
 
 @check
 def the_first_check_on_a_terminal_mentions_the_trial(repository):
-    hint = "`./ra_monitor trial check FILE` answers in about half a minute, from a build without any proof"
+    hint = "`./ra_monitor trial check FILE` answers in one to two minutes, from a build without any proof"
     require(hint not in repository.run("check").said)
     shutil.rmtree(repository.top / "crates" / PROGRAM / "out")
     ran, said = run_on_a_terminal(repository, "check")

@@ -15,7 +15,7 @@ PROGRAM = "ra_check_cli"
 WHOLE = "ra_monitor_cli"
 EXPLAINS = "ra_explain_cli"
 CRATES = f"""\
-# NAME: what it stands on
+# NAME: what it depends on
 low:
 left: low
 right: low

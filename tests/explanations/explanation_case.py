@@ -118,8 +118,10 @@ class Case:
 
     def right(self):
         """The violating line with the expected answer; None where another cause fails, or where no answer holds."""
+        if self.cause != "query" or self.monitor.kind in ("any", "mvregister"):
+            return None
         state = self.state_seen()
-        if self.cause != "query" or state is None:
+        if state is None:
             return None
         if self.monitor.kind == "list" and self.fields(self.place)[1] not in ("read", "part"):
             return None

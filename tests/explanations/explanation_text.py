@@ -6,6 +6,8 @@ here from the text, so that each fact that a page states is compared.
 import model
 from explanation_case import element_of
 from explanation_lists import is_by_order, rows_of_order, rows_of_query, rows_of_update
+from explanation_unordered import EXPECTED, rows_of_read
+from explanation_unordered import REASONS as REASONS_OF_READS
 
 # A line has at most 100 characters; of a longer one the first 98 are printed and two points.
 WIDEST, CUT = 100, 98
@@ -42,6 +44,8 @@ OPERATIONS = {
     "orset": "an OR-Set's operations are add, remove and read",
     "rga": "a list's operations are after, remove and read",
     "list": "a list's operations are insert, remove, read and part",
+    "any": "the operations of any type are update and read",
+    "mvregister": "a multi-value register's operations are write and read",
 }
 OTHER_SETS = {
     ("orset", False): "an OR-Set's add and remove need an identifier, as add 4 #1",
@@ -166,7 +170,7 @@ def taken_by(case, words, sign):
 def words_of_violation(case):
     label = len(case.monitor.labels) - 1
     yield ""
-    reason = REASON_OF_A_LIST if is_by_order(case) else REASONS[case.cause]
+    reason = REASON_OF_A_LIST if is_by_order(case) else REASONS_OF_READS.get(case.monitor.kind, REASONS[case.cause])
     yield f"line {case.place + 3} is a violation (label {label}): {reason}"
     yield ""
     yield headed("reported", act(case.said(case.place)))
@@ -188,6 +192,11 @@ def words_of_a_list(case):
 
 def words_of_query(case):
     right = case.right()
+    if case.monitor.kind in EXPECTED:
+        yield headed("expected", EXPECTED[case.monitor.kind])
+        for head, facts, *label in rows_of_read(case):
+            yield with_label(case, headed(head, facts), *label) if label else headed(head, facts)
+        return
     if right is None:
         yield headed("expected", "no result: the updates that it sees cannot be applied by themselves")
         yield from words_of_unmet(case)

@@ -43,10 +43,11 @@ MALFORMED = (
     Malformed("an_operation_of_another_kind", [line(), line(operation="add")], (
         'log.jsonl:2: the field "operation" is "add": expected one of write, read, deliver for the kind register')),
     Malformed("an_unknown_kind", [line(kind="map")], (
-        'log.jsonl:1: the field "kind" is "map": expected one of counter, register, lwwset, orset, rga, list')),
+        'log.jsonl:1: the field "kind" is "map": expected one of counter, register, lwwset, orset, rga, list, any, '
+        "mvregister")),
     Malformed("no_kind", [without("kind")], (
-        'log.jsonl:1: the field "kind" is missing: expected one of counter, register, lwwset, orset, rga, list, in one line '
-        "of the object or as --kind")),
+        'log.jsonl:1: the field "kind" is missing: expected one of counter, register, lwwset, orset, rga, list, any, '
+        "mvregister, in one line of the object or as --kind")),
     Malformed("two_kinds", [line(), line(kind="rga")], (
         'log.jsonl:2: the field "kind" is "rga", and log.jsonl:1 has "register": expected one kind for each object')),
     Malformed("no_stamp", [without("stamp")], f'log.jsonl:1: the field "stamp" is missing: {CLOCK}'),

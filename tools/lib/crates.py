@@ -1,4 +1,4 @@
-"""The crates of crates.txt: what each stands on, what it is, and how long its proof takes."""
+"""The crates of crates.txt: what each depends on, what it is, and how long its proof takes."""
 import os
 import re
 
@@ -12,7 +12,7 @@ class Failed(Exception):
 
 
 class Crates:
-    """The crates of a tree's crates.txt, each with its line and with the crates of the tree that it stands on."""
+    """The crates of a tree's crates.txt, each with its line and with the crates of the tree that it depends on."""
 
     def __init__(self, top):
         self.top, self.lines, self.stands_on = top, {}, {}
@@ -26,7 +26,7 @@ class Crates:
             libraries[:] = [it for it in libraries if it in self.lines]
 
     def up_to(self, name):
-        """The crate and all that it stands on, lowest first."""
+        """The crate and all that it depends on, lowest first."""
         if name not in self.lines:
             raise Failed(f"crates.txt names no crate {name}")
         found = []

@@ -1,7 +1,7 @@
 """Has crates proved side by side, each in a room of its own.
 
 `rt` keeps all others out of a crate's folder, and out of those of the crates below, for as long as it works. So crates
-that stand on one crate would wait for one another. Each is therefore proved in a room: a folder with the sources of
+that depend on one crate would wait for one another. Each is therefore proved in a room: a folder with the sources of
 this crate and of those below it, as they were when all began, and with the libraries that were built of these. The
 files of sources and libraries are the same ones everywhere (hard links), since `rt` puts new ones in place of those
 that it changes. Libraries hold statements alone (tools/lib/build_interfaces). For the next build they are kept in the

@@ -20,7 +20,7 @@ class Plan:
         self.crates, self.left, self.processors = crates, list(names), processors
         self.seconds = crates.seconds()
         self.proved, self.running, self.took, self.wanted = [], {}, 0.0, 0.0
-        # The chain from each crate on, itself and what stands on it, in seconds.
+        # The chain from each crate on, itself and what depends on it, in seconds.
         self.chain = {}
         for name in reversed(self.left):
             above = [self.chain[it] for it in self.chain if name in crates.stands_on[it]]
@@ -72,7 +72,7 @@ class Plan:
         return max(whole - (now - began), whole / 10)
 
     def needs(self, name, now):
-        """How long the crate and what stands on it will take from now on, in seconds: the chain that it begins."""
+        """How long the crate and what depends on it will take from now on, in seconds: the chain that it begins."""
         if name in self.running:
             return self.rest(name, now) + self.scale() * (self.chain[name] - self.seconds[name])
         return self.scale() * self.chain[name]

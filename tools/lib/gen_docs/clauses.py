@@ -10,7 +10,7 @@ the clause in the source; the clause itself decides. Theorems stand in [theorems
 - An *obligation* is what every implementation of a trait proves.
 - Beside these clauses, each call is safe and total: no undefined behavior, no arithmetic overflow, and each call
   returns, except those that may wait ([assurance case](../explanation/assurance_case.md)).
-- A clause holds for each of the five kinds, unless it names kinds.
+- A clause holds for each kind, unless it names kinds.
 - What a clause says of the bytes of a reader or a writer holds where contracts know them, as for those over memory.
 """
 

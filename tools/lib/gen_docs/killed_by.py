@@ -15,6 +15,7 @@ PLACE = re.compile(rf"{NAME}, (clause|clauses|precondition|postcondition|invaria
                    rf"(?: ({LIST}))?(?:, on which (.*) depends?)?")
 ABOVE = re.compile(rf"{NAME}(?: \(({LIST})\))?")
 TEST = re.compile(rf"(?:test|text|script)s? ({LIST})")
+TEXTS = ("examples/*.rah", "tests/program/*texts/*.rah", "tests/explanations/pages/*.rah")
 KIND = {"clauses": "clause", "part": "invariant", "parts": "invariant", "contract": "other", "definition": "other"}
 
 
@@ -78,7 +79,7 @@ def tests_of(top):
     functions, those of the modules beside them included."""
     sources = "".join(it.read_text(encoding="utf-8") for it in top.glob("crates/*/src/**/*.rt"))
     functions = re.findall(r"#\[test\]\s*\n\s*(?:pub )?fn ([a-z_0-9]+)", sources)
-    texts = [it.stem for folder in ("tests/program/texts", "examples") for it in (top / folder).glob("*.rah")]
+    texts = [it.stem for glob in TEXTS for it in top.glob(glob)]
     files = [it for it in (top / "tests").rglob("*") if it.is_file()]
     scripts = [it for it in files if os.access(it, os.X_OK)]
     read = [it.read_text(encoding="utf-8") for it in {*scripts, *(it for it in files if is_module(it))}]
