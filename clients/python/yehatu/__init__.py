@@ -9,7 +9,7 @@ from typing import Any as _Any
 from .differences import difference, inserted
 from .errors import FlakyRun, MonitorExited, NotLinearizable, NotRepresentable, Refused, ReplicaRaised, ReportFailed
 from .monitor import Monitor, Report
-from .operations import Operation, add, decrement, increment, insert, insert_after, remove, write
+from .operations import Operation, add, decrement, increment, insert, insert_after, remove, update, write
 from .random_runs import Runs, check_random, replay
 from .recorder import Recorder
 
@@ -36,6 +36,7 @@ __all__ = [
     "inserted",
     "remove",
     "replay",
+    "update",
     "write",
 ]
 

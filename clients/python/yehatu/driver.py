@@ -321,6 +321,10 @@ def operation_of(kind: str, step: Step, message: Any, neighbours: Tuple[Any, Any
     if kind == "list" and step.method in INSERTING:
         left, right = neighbours
         return operations.insert(left, step.arguments[1], right)
+    if kind == "any":
+        return operations.update()
+    if kind == "mvregister":
+        return operations.write(step.arguments[0])
     if kind == "register":
         return operations.write(step.arguments[0], _stamp_of(step, message))
     if step.method == "insert_after":

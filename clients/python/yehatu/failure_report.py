@@ -1,11 +1,11 @@
 """Reports on a failed history, in the user's names."""
 import os
 import tempfile
-from typing import Any, Dict, Hashable, List, Optional, Sequence, Tuple
+from typing import Any, Dict, Hashable, List, Mapping, Optional, Sequence, Tuple
 
 from . import program as programs
 from .errors import MonitorExited, NotLinearizable, Refused
-from .shown import observed_identifiers
+from .shown import first_equal_read, observed_identifiers
 from .translation import Translator, is_operation
 
 # The largest number of a history's last lines in a message.
@@ -26,6 +26,16 @@ LIST_MEANINGS = {
     "update": "it inserts an element that was inserted before, or names one that was not",
     "query": "it does not follow from the updates that it sees",
 }
+# The meanings of the violations of each kind, where they differ.
+OWN_MEANINGS = {
+    "list": LIST_MEANINGS,
+    "any": {"query": "an earlier read that sees the same updates returned another value"},
+    "mvregister": {
+        "query": "it does not return exactly the values of the visible writes that no other visible write replaced",
+    },
+}
+# What may be wrong with a violation of an RGA.
+OTHER_CLOCKS = "if the type does not order its elements by clocks of its own, check it as the kind list"
 NOT_CAUSAL = "refused not-causal "
 
 
@@ -34,11 +44,12 @@ class FailureReport:
 
     `message_keys` has the key of each label's message, and `notes` the lines that are printed before the command with
     a given number. `places`, if any, has the place of each command in a log, which descriptions then begin with.
+    `calls` has the call of each message's update of any type, by the message's key.
     """
 
     def __init__(
         self, translator: Translator, text: str, message_keys: Dict[int, Hashable], notes: Dict[int, List[str]],
-        places: Sequence[object] = (),
+        places: Sequence[object] = (), calls: Mapping[Any, str] = {},
     ) -> None:
         self._translator = translator
         self._message_keys = message_keys
@@ -46,10 +57,16 @@ class FailureReport:
         self._places = places
         self.commands = text.splitlines()[HEADER_LINES:]
         self._command_of = [number for number, line in enumerate(self.commands) if is_operation(line)]
+        self._calls = {
+            self._command_of[label]: calls[key] for label, key in message_keys.items()
+            if key in calls and label < len(self._command_of)
+        }
 
     def describe(self, command: int) -> str:
         """Returns a description of the command with this number."""
         description = self._translator.describe(self.commands[command], self._describe_label)
+        if command in self._calls:
+            description += f": {self._calls[command]}"
         return f"{self._places[command]}: {description}" if self._places else description
 
     def _describe_label(self, label: int) -> str:
@@ -89,7 +106,8 @@ class FailureReport:
         an explanation.
         """
         operation = self.describe(len(self.commands) - 1)
-        return f"{operation}: {self.describe_reply(reply)}{self._format_explanation(explanation)}"
+        hint = f"\n{OTHER_CLOCKS}" if self._translator.kind == "rga" and reply.startswith("no ") else ""
+        return f"{operation}: {self.describe_reply(reply)}{self._format_explanation(explanation)}{hint}"
 
     def expected_read(self, explanation: Optional[Dict[str, Any]]) -> Optional[Tuple[Any]]:
         """Returns the expected result of the last command, as a tuple with it alone, or `None` if it is unknown."""
@@ -127,9 +145,15 @@ class FailureReport:
         verdict = "not RA-linearizable" if reply.startswith("no ") else "refused"
         if self._translator.kind == "orset" and " remove " in self.commands[-1] and causes == ["query"]:
             return f"{verdict}, {self._describe_identifiers()}"
-        meanings = {**MEANINGS, **LIST_MEANINGS} if self._translator.kind == "list" else MEANINGS
+        if self._translator.kind == "any" and causes == ["query"]:
+            return f"{verdict}, {OWN_MEANINGS['any']['query']}{self._describe_equal_read()}"
+        meanings = {**MEANINGS, **OWN_MEANINGS.get(self._translator.kind, {})}
         return f"{verdict}, {meanings[causes[0]]}" if causes else reply
 
+    def _describe_equal_read(self) -> str:
+        """Describes the read that the last command, a read, is compared with."""
+        found = first_equal_read(self.commands)
+        return "" if found is None else f": {self.describe(found)}"
 
     def _describe_identifiers(self) -> str:
         """Compares the identifiers that the last command, a removal, names with those that its replica has."""

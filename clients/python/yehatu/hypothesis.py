@@ -13,7 +13,7 @@ from . import program as programs
 from .delivery_state import REMOVING, DeliveryState
 from .driver import Setting
 from .operations import LISTS, methods_of
-from .plans import BOUNDARIES, SET_ELEMENTS
+from .plans import ANY_ARGUMENTS, BOUNDARIES, SET_ELEMENTS
 from .profile import Profile, Traits, default_names, traits_of
 from .program import Program
 from .random_failures import create_error
@@ -94,8 +94,10 @@ class _Builder:
             arguments = (visible[first % len(visible)],)
         elif self._kind in LISTS:
             arguments = ([None, *visible][first % (len(visible) + 1)], number)
-        elif self._kind == "register":
+        elif self._kind == "register" or (self._kind == "mvregister" and second % 4):
             arguments = (number,)
+        elif self._kind == "any":
+            arguments = (ANY_ARGUMENTS[first % len(ANY_ARGUMENTS)],)
         elif self._kind != "counter":
             elements = [*range(1, SET_ELEMENTS + 1), *BOUNDARIES]
             arguments = (elements[first % (SET_ELEMENTS if second % 8 else len(elements))],)

@@ -87,7 +87,7 @@ def _operations(word: str, fields: Dict[str, Any]) -> Any:
     if "identifier" in fields:
         identifiers = (fields["identifier"],)
     anchor = (fields["left"], fields["right"]) if word == "insert" else fields.get("anchor")
-    return Operation(word, fields["value"], anchor, fields.get("stamp"), identifiers)
+    return Operation(word, fields.get("value"), anchor, fields.get("stamp"), identifiers)
 
 
 def judge(name: Hashable, kind: str, replicas: Sequence[Hashable], events: Sequence[Event], program: str) -> Judged:
@@ -131,4 +131,10 @@ def _require_judgeable(replicas: Sequence[Hashable], events: Sequence[Event]) ->
 
 def _totals(replicas: Sequence[Hashable], events: Sequence[Event]) -> str:
     deliveries = sum(it.operation == DELIVER for it in events)
-    return f"{len(events) - deliveries} operations and {deliveries} deliveries of {len(replicas)} replicas"
+    operations = _counted(len(events) - deliveries, "operation", "operations")
+    received = _counted(deliveries, "delivery", "deliveries")
+    return f"{operations} and {received} of {_counted(len(replicas), 'replica', 'replicas')}"
+
+
+def _counted(count: int, one: str, several: str) -> str:
+    return f"{count} {one if count == 1 else several}"

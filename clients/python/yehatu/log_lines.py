@@ -219,7 +219,7 @@ FIELDS: Dict[str, Field] = {
     "replica": Field("the name of the replica, a string or a whole number", _key),
     "object": Field("the name of the object, a string or a whole number", _key),
     "operation": Field("what the replica did, such as read, deliver, write or add", _operation),
-    "kind": Field("one of counter, register, lwwset, orset, rga, list", _kind),
+    "kind": Field("one of counter, register, lwwset, orset, rga, list, any, mvregister", _kind),
     "message": Field("the key of the update's message, a string or a whole number", _key),
     "stamp": Field("the clock of the update, a whole number or a string of digits", _clock),
     "identifier": Field("the identifier of the addition, a JSON value", thing),

@@ -31,6 +31,8 @@ SHAPES: Dict[Tuple[str, str], Shape] = {
     ("list", "insert"): Shape(("left", "value", "right"), frozenset(("message",))),
     ("list", "remove"): Shape(("value",), frozenset(("message",))),
     ("list", PART): Shape(("value",)),
+    ("any", "update"): Shape((), frozenset(("message",))),
+    ("mvregister", "write"): Shape(("value",), frozenset(("message",))),
 }
 
 
@@ -80,9 +82,10 @@ def _value_of(event: Event, kind: str) -> Any:
 
 def _result_of(event: Event, kind: str) -> Any:
     value = event.fields["value"]
-    if kind == "register":
+    if kind in ("register", "any"):
         return thing(value)
     try:
         return things(value)
     except ValueError:
-        raise field_fault(event.place, "value", value, "the list of the elements that the read returned") from None
+        what = "values" if kind == "mvregister" else "elements"
+        raise field_fault(event.place, "value", value, f"the list of the {what} that the read returned") from None

@@ -1,4 +1,5 @@
 """The numbers and names that represent the user's values in the text format."""
+import copy
 from typing import Any, Dict, Hashable, Iterable, Iterator, List, Optional, Sequence, Set
 
 from .errors import NotRepresentable
@@ -44,6 +45,86 @@ class Numbering:
     def thing_of(self, number: int) -> Any:
         """Returns the thing with this number, or None if the number was reserved."""
         return self._things[number - 1]
+
+
+class ValueNumbering(Numbering):
+    """Numbers for values of any sort, also those that cannot be keys: values that are equal by `==` have one number.
+
+    Lists, dictionaries and sets are compared by what they hold, and two floating-point NaN are one value.
+    """
+
+    def __init__(self, role: str) -> None:
+        super().__init__(role)
+        # Copies of the values that are no keys and no collections, which are compared one by one.
+        self._others: List[Any] = []
+
+    def number_of(self, thing: Any) -> int:
+        """Returns the number of this value, which is a new one at its first use."""
+        key = self._key_of(thing)
+        number = self._number_of.get(key)
+        if number is None:
+            self._things.append(thing if key is thing else _snapshot(thing))
+            number = self._number_of[key] = len(self._things)
+        return number
+
+    def _key_of(self, value: Any) -> Hashable:
+        """Returns a key of a dictionary, such that equal values have equal keys, and others have others."""
+        if isinstance(value, float) and value != value:
+            return _NOT_A_NUMBER
+        if isinstance(value, tuple):
+            return tuple(map(self._key_of, value))
+        if isinstance(value, list):
+            return _LIST, tuple(map(self._key_of, value))
+        if isinstance(value, dict):
+            return _DICTIONARY, frozenset((it, self._key_of(value[it])) for it in value)
+        if isinstance(value, set):
+            return frozenset(value)
+        try:
+            hash(value)
+        except TypeError:
+            return _OTHER, self._place_of(value)
+        equality: Any = type(value).__eq__
+        if equality is object.__eq__:
+            # Compared by identity, two equal values would differ, and one that changes would stay the same.
+            _equal_copy(value)
+        return value  # type: ignore[no-any-return]
+
+    def _place_of(self, value: Any) -> int:
+        """Returns the place of an equal value among the others, where a copy of it is kept."""
+        for place, it in enumerate(self._others):
+            if _are_equal(it, value):
+                return place
+        self._others.append(_equal_copy(value))
+        return len(self._others) - 1
+
+
+# The first parts of keys of values that are no keys themselves. Nothing that a user passes is equal to them.
+_LIST, _DICTIONARY, _OTHER, _NOT_A_NUMBER = object(), object(), object(), object()
+
+
+def _are_equal(one: Any, other: Any) -> bool:
+    try:
+        return bool(one == other)
+    except Exception as error:  # Whatever the user's class raises.
+        raise NotRepresentable(f"{one!r} and {other!r} cannot be compared by `==` ({error})") from error
+
+
+def _equal_copy(value: Any) -> Any:
+    """Returns a copy of a value, which is equal to it."""
+    kept = _snapshot(value)
+    if not _are_equal(kept, value):
+        raise NotRepresentable(
+            f"{value!r} is not equal to a copy of itself: expected a value that `==` compares by what it holds"
+        )
+    return kept
+
+
+def _snapshot(value: Any) -> Any:
+    """Returns a copy, since what a read returned may change later."""
+    try:
+        return copy.deepcopy(value)
+    except Exception as error:  # Whatever the user's class raises.
+        raise NotRepresentable(f"{value!r} cannot be copied ({error}): expected plain data") from error
 
 
 class Clocks:

@@ -1,4 +1,4 @@
-"""The operations of the six kinds, in the user's own names."""
+"""The operations of the eight kinds, in the user's own names."""
 from typing import Any, Collection, Dict, Hashable, Iterable, NamedTuple, Optional, Tuple, Union
 
 from .errors import NotRepresentable
@@ -13,6 +13,8 @@ OPERATIONS: Dict[str, Tuple[str, ...]] = {
     "orset": ("add", "remove"),
     "rga": ("insert_after", "remove"),
     "list": ("insert", "remove"),
+    "any": ("update",),
+    "mvregister": ("write",),
 }
 # The kinds whose elements have an order.
 LISTS = ("rga", "list")
@@ -43,6 +45,11 @@ class Operation(NamedTuple):
     identifiers: Optional[Collection[Hashable]] = None
 
 
+def update() -> Operation:
+    """Creates an update of an object of the kind `any`, whose effect is not reported."""
+    return Operation("update")
+
+
 def increment() -> Operation:
     """Creates a counter's increment by one."""
     return Operation("increment")
@@ -53,8 +60,11 @@ def decrement() -> Operation:
     return Operation("decrement")
 
 
-def write(value: Hashable, stamp: Stamp) -> Operation:
-    """Creates a register's write of this value. The stamp is a clock, or a clock and its replica."""
+def write(value: Hashable, stamp: Optional[Stamp] = None) -> Operation:
+    """Creates a register's write of this value. The stamp is a clock, or a clock and its replica.
+
+    The write of a register that keeps concurrent writes, which is the kind `mvregister`, has no stamp.
+    """
     return Operation("write", value, None, stamp)
 
 

@@ -14,6 +14,10 @@ VERSION = 2
 SEED = re.compile(r"(\d+)-(-?\d+)")
 # A set has few elements, so that updates of one element are concurrent.
 SET_ELEMENTS = 3
+# The arguments of an update of any type: it may derive what it does from the number.
+ANY_ARGUMENTS = range(1, 1001)
+# The chance that a register with concurrent writes writes one of a few values, so that two of them may be equal.
+EQUAL_WRITE_CHANCE = 0.2
 # The values around the bounds of the usual sizes of numbers. All are exact in JavaScript too.
 BOUNDARIES = (0, 1, 127, 128, 255, 256, 65535, 65536, 2**31 - 1, 2**31, 2**32 - 1, 2**32, 2**53 - 1)
 # The chance that a value is one of these.
@@ -236,7 +240,11 @@ class Planner:
         method = self._random.choices(self._methods, self._weights)[0]
         if self._kind == "counter":
             return method, self._choose_amount() if self._traits.amounts else ()
-        if self._kind == "register":
+        if self._kind == "any":
+            return method, (self._random.choice(ANY_ARGUMENTS),)
+        if self._kind == "mvregister" and self._random.random() < EQUAL_WRITE_CHANCE:
+            return method, (self._random.choice(self._elements),)
+        if self._kind in ("register", "mvregister"):
             return method, (self._new_value(),)
         if self._kind not in LISTS:
             return method, (self._random.choice(self._elements),)

@@ -10,7 +10,7 @@ AMOUNT_RULE = "an amount is the first parameter of each update and is named `by`
 # The relative frequency of each method, unless the caller chooses others.
 WEIGHTS = {
     "increment": 1.0, "decrement": 1.0, "write": 1.0, "add": 2.0, "remove": 1.0, "insert_after": 3.0, "insert": 3.0,
-    "delete": 1.0, "insert_at": 3.0, "remove_at": 1.0,
+    "delete": 1.0, "insert_at": 3.0, "remove_at": 1.0, "update": 1.0,
 }
 # Each of two names that a method may have, with the other one.
 PAIRED_NAMES = {**OTHER_NAMES, **{other: it for it, other in OTHER_NAMES.items()}}

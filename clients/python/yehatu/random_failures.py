@@ -3,7 +3,7 @@ import os
 from typing import Mapping, Optional, Sequence, Tuple
 
 from .errors import FlakyRun, NotLinearizable, Refused, ReplicaRaised, ReportFailed
-from .failure_report import save_history
+from .failure_report import FailureReport, save_history
 from .faults import describe_faults
 from .regression import Expected, regression_test
 from .returned import Changed, Unusable
@@ -24,7 +24,7 @@ def create_error(
     `stored` before is not stored again.
     """
     history, path = _store(setting, small, seed, failure) if stored is None else (_beside(stored), stored)
-    report, operation = small.recorder.failure_report(small.text), _operation_of(setting, small)
+    report, operation = _report_on(setting, small), _operation_of(setting, small)
     reply = small.replies[-1] if small.raised is None else ""
     # The history has no line for a call that raised.
     last = "" if small.raised is None else operation.splitlines()[0]
@@ -75,14 +75,24 @@ def _answer(setting: Setting, failure: Failure) -> str:
     """Returns what a replica did, and what came of it."""
     if failure.raised is not None:
         return _operation_of(setting, failure)
-    return failure.recorder.failure_report(failure.text).summarize(failure.replies[-1], None)
+    return _report_on(setting, failure).summarize(failure.replies[-1], None)
+
+
+def _report_on(setting: Setting, failure: Failure) -> FailureReport:
+    """Returns a report on the failed history, in which an update of any type, whose line has no arguments, has its call."""
+    calls = {it.number: _call_of(it, failure.indexes) for it in failure.steps if it.action == "update"}
+    return failure.recorder.failure_report(failure.text, calls if setting.kind == "any" else {})
+
+
+def _call_of(step: Step, indexes: Mapping[int, int]) -> str:
+    return f"{step.method}({', '.join(map(repr, call_arguments(step, indexes)))})"
 
 
 def _operation_of(setting: Setting, failure: Failure) -> str:
     """Returns the last command, or the last call with what it raised, or what it returned that cannot be used."""
     raised = failure.raised
     if raised is None:
-        report = failure.recorder.failure_report(failure.text)
+        report = _report_on(setting, failure)
         return report.describe(len(report.commands) - 1)
     outcome = str(raised) if isinstance(raised, Unusable) else f"raised {raised!r}"
     return f"{describe_call(setting, failure.steps[-1], failure.indexes)} {outcome}"
@@ -154,13 +164,13 @@ def _indented(text: str) -> str:
 def describe_call(setting: Setting, step: Step, indexes: Mapping[int, int]) -> str:
     """Returns the call of a replica's method that a step makes."""
     names: Sequence[object] = setting.replicas
-    name, arguments = names[step.replica], ", ".join(map(repr, call_arguments(step, indexes)))
+    name = names[step.replica]
     if step.action == "join":
         return f"{names[step.number]!r}: fork({name!r})"
     if step.action == "merge":
         return f"{name!r}: merge(state of {names[step.number]!r})"
     calls = {
-        "update": f"{step.method}({arguments})", "deliver": f"receive(message {step.number})", "read": "read()",
+        "update": _call_of(step, indexes), "deliver": f"receive(message {step.number})", "read": "read()",
         "duplicate": f"receive(message {step.number}) again", "snapshot": "state()", "save": "save()",
         "merge_snapshot": f"merge(state {step.number}, which was taken earlier)", "restart": "load(saved state)",
     }

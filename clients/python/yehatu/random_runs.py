@@ -68,8 +68,9 @@ def check_random(
     Args:
         make_replica: Creates the replica of a name. A replica has the methods of its kind (`increment` and
             `decrement`, `write(value)`, `add(element)` and `remove(element)`, `insert_after(anchor, element)` and
-            `remove(element)` for the kind `rga`, or `insert(index, element)` and `delete(index)` for the kind `list`),
-            `read()`, and `receive(message)`. A type that only grows has no `decrement`, `remove` or `delete`.
+            `remove(element)` for the kind `rga`, `insert(index, element)` and `delete(index)` for the kind `list`, or
+            `update(number)` for the kind `any`), `read()`, and `receive(message)`. A type that only grows has no
+            `decrement`, `remove` or `delete`.
         replicas: The names of the replicas in the order in which the type breaks ties, lowest first, or their number.
         operations: The number of operations of a run.
         seeds: The seeds, such as 17 or "2-17" with the version of the planner, or their number, counted from 0.

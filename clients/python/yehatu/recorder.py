@@ -57,12 +57,14 @@ class Recorder(Reports):
     # Steps of any kind.
 
     def update(
-        self, replica: Hashable, operation: Union[Operation, Sequence[Operation], Callable[[Any], Any]], *,
+        self, replica: Hashable,
+        operation: Union[Operation, Sequence[Operation], Callable[[Any], Any], None] = None, *,
         act: Act = None, message: Any = None,
     ) -> Any:
         """Reports an update, and returns the result of the act. `message` is the key that its deliveries name.
 
-        A list of operations is a composition: it is reported as these operations in their order, with one message.
+        A list of operations is a composition: it is reported as these operations in their order, with one message. An
+        update of the kind `any` needs no operation.
         """
         return self._step("update", replica, act, self._update, operation, message)
 
@@ -98,7 +100,11 @@ class Recorder(Reports):
         return self._step("join", source, act, report, before=check)
 
     def read(self, replica: Hashable, value: Any) -> Any:
-        """Reports a read of this value, or of the value that this function returns. Returns the value."""
+        """Reports a read of this value, or of the value that this function returns. Returns the value.
+
+        The value of a set or a list is an iterable of its elements, and that of an `mvregister` one of its values. Of
+        the kind `any` it is a value of any sort, which is equal to another one if `==` says so.
+        """
         if callable(value):
             return self._step("read", replica, value, self._read, _identity)
         with self._lock:
@@ -156,10 +162,10 @@ class Recorder(Reports):
         return self._step(word, replica, act, report, message)
 
     def write(
-        self, replica: Hashable, value: Hashable, stamp: Union[Stamp, Callable[[Any], Stamp]], *, act: Act = None,
-        message: Any = None,
+        self, replica: Hashable, value: Hashable, stamp: Union[Stamp, Callable[[Any], Stamp], None] = None, *,
+        act: Act = None, message: Any = None,
     ) -> Any:
-        """Reports a register's write of this value."""
+        """Reports a register's write of this value. That of an `mvregister` has no stamp."""
         if act is None:
             return self._quick("write", replica, value, None, stamp, None, message)
         return self._step("write", replica, act, self._issue_named("write", value), None, stamp, None, message)

@@ -1,7 +1,8 @@
 """The source of a regression test for a small run."""
 import keyword
-from typing import Any, Callable, Dict, Hashable, List, Mapping, NamedTuple, Optional, Sequence, Set
+from typing import Any, Callable, Dict, Hashable, List, Mapping, NamedTuple, Optional, Sequence, Set, Tuple
 
+from .delivery_state import DeliveryState
 from .driver import initial_replicas
 from .operations import LISTS
 from .steps import RECEIVING, Step, call_arguments
@@ -34,11 +35,21 @@ class _Source:
             self._save(it)
         self.copies = bool(self._restarts) or any(it.action == "snapshot" for it in steps)
 
+    def keep_read(self, replica: int) -> None:
+        """Adds a read whose result the last read has to be equal to."""
+        self.copies = True
+        self.lines.append(f"read_1 = copy.deepcopy({self.variable(replica)}.read())")
+
+    def compare_reads(self, replica: int) -> None:
+        """Adds the last read, which has to be equal to the one that was kept."""
+        self.lines.append(f"self.assertEqual({self.variable(replica)}.read(), read_1)")
+
     def variable(self, replica: int) -> str:
         """Returns the variable of a replica: its name, if it can be one."""
         name = self._names[replica]
         is_short = isinstance(name, str) and name.isidentifier() and not keyword.iskeyword(name)
-        is_reserved = str(name).startswith(("saved_", "state_")) or name in (self._make, "copy", "self", "unittest")
+        taken = self._make, "copy", "self", "unittest"
+        is_reserved = str(name).startswith(("saved_", "state_", "read_")) or name in taken
         is_message = isinstance(name, str) and name[:1] == "m" and name[1:].isdigit()
         return str(name) if is_short and not is_reserved and not is_message else f"replica_{replica}"
 
@@ -94,7 +105,7 @@ class _Source:
     def add_assertion(self, step: Step, expected: Any) -> None:
         """Adds the last read, with its expected result."""
         read = f"{self.variable(step.replica)}.read()"
-        if self._kind in ("lwwset", "orset"):
+        if self._kind in ("lwwset", "orset", "mvregister"):
             elements = ", ".join(map(repr, sorted(expected)))
             self.lines.append(f"self.assertEqual(set({read}), {f'{{{elements}}}' if elements else 'set()'})")
         else:
@@ -109,17 +120,49 @@ def regression_test(
     make, imports = _import_of(make_replica)
     begin = ["", "", "class Regression(unittest.TestCase):", f"    def test_seed_{seed.replace('-', '_')}(self):"]
     source = _Source(make, kind, names, steps, indexes)
-    for step in steps[:-1] if expected else steps:
-        source.add(step)
-    if expected:
+    compared = first_equal_read(steps, len(names)) if kind == "any" and not raises else None
+    says = expected is not None or compared is not None
+    for place, step in enumerate(steps[:-1] if says else steps):
+        if place == compared:
+            source.keep_read(step.replica)
+        else:
+            source.add(step)
+    if compared is not None:
+        source.compare_reads(steps[-1].replica)
+    elif expected:
         source.add_assertion(steps[-1], expected.value)
     body = _collapsed(source.lines)
     needed = ["import copy", "import unittest"] if source.copies else ["import unittest"]
     lines = [*needed, *imports, *begin, *(INDENT + it for it in body)]
-    if len(lines) > MAX_LINES or not (expected or raises):
+    if len(lines) > MAX_LINES or not (says or raises):
         needed = ["import unittest", *imports, "from yehatu import replay"]
         lines = [*needed, *begin, f"{INDENT}replay({make}, {path!r})"]
     return "\n".join(lines) + "\n"
+
+
+def first_equal_read(steps: Sequence[Step], replicas: int) -> Optional[int]:
+    """Returns the place of the first read that sees the same updates as the last step, or `None` if that is the last
+    one itself, or no read."""
+    state = DeliveryState("", replicas)
+    taken: Dict[int, Tuple[int, ...]] = {}
+    first: Dict[Tuple[int, ...], int] = {}
+    for place, step in enumerate(steps):
+        if step.action == "update":
+            state.update(step)
+        elif step.action == "deliver":
+            state.arrive(step.replica, step.number)
+        elif step.action == "merge":
+            state.merge(step.replica, state.counts(step.number))
+        elif step.action == "snapshot":
+            taken[step.number] = state.counts(step.replica)
+        elif step.action == "merge_snapshot":
+            state.merge(step.replica, taken[step.number])
+        elif step.action == "join":
+            state.join(step.replica, step.number)
+        elif step.action == "read":
+            first.setdefault(state.counts(step.replica), place)
+    found = first.get(state.counts(steps[-1].replica), len(steps))
+    return found if steps[-1].action == "read" and found < len(steps) - 1 else None
 
 
 def _import_of(make_replica: Callable[..., Any]) -> "tuple[str, List[str]]":

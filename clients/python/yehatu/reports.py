@@ -65,9 +65,12 @@ class Reports:
         with self._lock:
             self._notes.setdefault(self._commands, []).append(text)
 
-    def failure_report(self, text: str) -> FailureReport:
-        """Returns a report on this text of this history."""
-        return FailureReport(self._translator, text, self._keys_of_labels(), self._notes)
+    def failure_report(self, text: str, calls: Mapping[Any, str] = {}) -> FailureReport:
+        """Returns a report on this text of this history.
+
+        `calls` has the call of each message's update of any type, by the message's key.
+        """
+        return FailureReport(self._translator, text, self._keys_of_labels(), self._notes, calls=calls)
 
     def _enter(self, replica: Hashable, word: str, arguments: Sequence[Any] = ()) -> int:
         """Returns the number of the replica. Raises the failure, if there is one."""
@@ -157,7 +160,11 @@ class Reports:
         if self._monitor.unexpected is not None:
             self._raise_failure()
 
-    def _update(self, replica: int, operation: Union[Operation, Sequence[Operation]], message: Hashable) -> None:
+    def _update(
+        self, replica: int, operation: Union[Operation, Sequence[Operation], None], message: Hashable
+    ) -> None:
+        if operation is None:
+            operation = self._unsaid_operation()
         if isinstance(operation, Operation):
             word, value, anchor, stamp, identifiers = operation
             is_one = word == "add" and identifiers is not None
@@ -170,6 +177,14 @@ class Reports:
             self._update(replica, it, None)
         if message is not None:
             self._messages[message] = (*first, len(operation))
+
+    def _unsaid_operation(self) -> Operation:
+        """Returns the operation of an update whose effect is not reported."""
+        kind = self._translator.kind
+        if kind == "any":
+            return operations.update()
+        expected = " or ".join(operations.operations_of(kind))
+        raise NotRepresentable(f"an update of the kind {kind} needs its operation: expected {expected}")
 
     def _issue(
         self, replica: int, word: str, value: Any, anchor: Any, stamp: Any, identifiers: Any, message: Hashable

@@ -1,5 +1,5 @@
-"""What a history's text says that a replica has: the elements of an LWW set, the identifiers of an OR-Set."""
-from typing import Any, Dict, Iterator, List, Set, Tuple
+"""What a history's text says that a replica has: the elements of an LWW set, the identifiers of an OR-Set, updates."""
+from typing import Any, Dict, FrozenSet, Iterator, List, Optional, Set, Tuple
 
 # An update: the name of its replica, its word, its element, and its clock or its identifiers.
 Update = Tuple[str, str, int, str]
@@ -41,3 +41,23 @@ def observed_identifiers(commands: List[str], replica: str, element: int) -> Set
             numbers = {int(it) for it in identifiers.split(",") if it not in ("", "-")}
             observed = observed | numbers if word == "add" else observed - numbers
     return observed
+
+
+def first_equal_read(commands: List[str]) -> Optional[int]:
+    """Returns the number of the first read that sees the same updates as the last command, which is a read."""
+    received: Dict[str, FrozenSet[int]] = {}
+    first: Dict[FrozenSet[int], int] = {}
+    label = 0
+    for number, command in enumerate(commands):
+        name, word, *fields = command.split(" ")
+        if name == "join":
+            received[word] = received.get(fields[0], frozenset())
+            continue
+        seen = received.get(name, frozenset())
+        if word == "read":
+            first.setdefault(seen, number)
+        else:
+            received[name] = seen | {int(fields[0]) if word == "got" else label}
+        label += word != "got"
+    last = received.get(commands[-1].split(" ")[0], frozenset())
+    return first.get(last) if " read " in commands[-1] else None

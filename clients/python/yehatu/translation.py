@@ -2,7 +2,7 @@
 from typing import Any, Callable, Collection, Dict, Hashable, Iterable, List, Optional, Sequence
 
 from .errors import NotRepresentable
-from .numbers import Clocks, Numbering, RankedClocks, Replicas
+from .numbers import Clocks, Numbering, RankedClocks, Replicas, ValueNumbering
 from .operations import LISTS, Stamp, operations_of
 
 # Formats the value, the anchor or the neighbours, the stamp and the identifiers of an operation of the replica with
@@ -27,7 +27,7 @@ class Translator:
         self.kind = kind
         self.replicas = Replicas(replicas)
         self.identifiers = Numbering("an identifier")
-        self._values = Numbering("a value" if kind == "register" else "an element")
+        self._values = _numbering_of(kind)
         self._clocks = clocks or Clocks()
         self._nothing = nothing
         self.number_of = self._values.number_of
@@ -38,6 +38,7 @@ class Translator:
             "remove": self._format_removal,
             "insert_after": self._format_insertion,
             "insert": self._format_insertion_between,
+            "update": _constant("update"),
         }
         self.formatters = {it: formatters[it] for it in operations}
 
@@ -62,6 +63,10 @@ class Translator:
     # The fields of a line after the replica's name.
 
     def _format_write(self, replica: int, value: Any, anchor: Any, stamp: Any, identifiers: Any) -> str:
+        if self.kind == "mvregister":
+            if stamp is not None:
+                raise NotRepresentable(f"the writes of the kind mvregister have no stamps: got {stamp!r}")
+            return f"write {self.number_of(value)}"
         if value is self._nothing or (value.__class__ is self._nothing.__class__ and value == self._nothing):
             raise NotRepresentable(
                 f"{value!r} cannot be written, since it represents an unwritten register: "
@@ -121,14 +126,20 @@ class Translator:
             return str(int(value))
         if self.kind == "register":
             return "none" if _are_equal(value, self._nothing) else str(self._values.number_of(value))
+        if self.kind == "any":
+            return str(self._values.number_of(value))
+        if self.kind == "mvregister" and isinstance(value, (str, bytes)):
+            # A text is one value, and no collection of values.
+            raise self._unusable(value)
         try:
             elements = iter(value)
         except TypeError:
-            raise NotRepresentable(
-                f"a read returned {value!r}: expected {expected_result(self.kind)}"
-            ) from None
+            raise self._unusable(value) from None
         numbers = [*map(self.number_of, elements)]
         return _join_numbers(numbers if self.kind in LISTS else _sort_unique(numbers))
+
+    def _unusable(self, value: Any) -> NotRepresentable:
+        return NotRepresentable(f"a read returned {value!r}: expected {expected_result(self.kind)}")
 
     def format_part(self, elements: Any) -> str:
         """Returns the last field of the line of a partial read of a list, which returned these elements."""
@@ -160,8 +171,8 @@ class Translator:
             return self._describe_insertion(*map(int, fields))
         if word == "part":
             return f"shows {self._describe_result(fields[0])} in this order, perhaps with others between"
-        if word in ("inc", "dec"):
-            return {"inc": "increments", "dec": "decrements"}[word]
+        if word in ("inc", "dec", "update"):
+            return {"inc": "increments", "dec": "decrements", "update": "makes an update"}[word]
         verb = {"write": "writes", "add": "adds", "remove": "removes"}[word]
         under = f" under {self._describe_identifiers(fields[1][1:])}" if len(fields) > 1 else ""
         return f"{verb} {self._values.thing_of(int(fields[0]))!r}{under}"
@@ -183,6 +194,8 @@ class Translator:
             return int(field)
         if self.kind == "register":
             return self._nothing if field == "none" else self._values.thing_of(int(field))
+        if self.kind == "any":
+            return self._values.thing_of(int(field))
         return [self._values.thing_of(it) for it in _parse_numbers(field)]
 
     def thing_of(self, number: int) -> Any:
@@ -204,7 +217,18 @@ def expected_result(kind: str) -> str:
         return f"a whole number from {MIN_COUNT} to {MAX_COUNT}"
     if kind == "register":
         return "a value that can be a key of a dictionary"
+    if kind == "any":
+        return "a value that can be copied, and that `==` compares by what it holds"
+    if kind == "mvregister":
+        return "a list or another iterable of the values, which can be keys of a dictionary"
     return "a list or another iterable of the elements, which can be keys of a dictionary"
+
+
+def _numbering_of(kind: str) -> Numbering:
+    """Returns the numbering of the values or of the elements of a history of this kind."""
+    if kind == "any":
+        return ValueNumbering("a value")
+    return Numbering("a value" if kind in ("register", "mvregister") else "an element")
 
 
 def _constant(fields: str) -> Formatter:
