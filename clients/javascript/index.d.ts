@@ -19,7 +19,7 @@ export interface Report {
 }
 
 /** The kind of a history: the data type whose specification the monitor checks. */
-export type Kind = "counter" | "register" | "lwwset" | "orset" | "rga" | "list";
+export type Kind = "counter" | "register" | "lwwset" | "orset" | "rga" | "list" | "any" | "mvregister";
 /**
  * The condition that fails at a violation: the order, an update that is not admitted, or a query whose answer is wrong.
  */
@@ -140,12 +140,14 @@ export interface Operation {
   readonly identifiers?: readonly Key[];
 }
 
+/** Creates an update of an object of the kind `any`, whose effect is not reported. */
+export function update(): Operation;
 /** Creates a counter's increment by one. */
 export function increment(): Operation;
 /** Creates a counter's decrement by one. */
 export function decrement(): Operation;
-/** Creates a register's write of this value. */
-export function write(value: unknown, stamp: Stamp): Operation;
+/** Creates a register's write of this value. That of an `mvregister` has no stamp. */
+export function write(value: unknown, stamp?: Stamp): Operation;
 /**
  * Creates a set's addition of this element, with the stamp of an LWW set or the identifier of an OR-Set. The recorder
  * chooses an identifier for an OR-Set whose type does not expose one.
@@ -237,6 +239,8 @@ export class Recorder {
     operation: Told<Operation | readonly Operation[], Done>,
     options?: Sent<Done>,
   ): Promise<Done>;
+  /** Reports an update of an object of the kind `any`, whose effect is not reported. */
+  update<Done>(replica: Key, options?: Sent<Done>): Promise<Done>;
   /** Reports that the replica applies the message of this key. A repeated delivery runs the act alone. */
   deliver<Done>(replica: Key, message: Told<Key, Done>, options?: Act<Done>): Promise<Done>;
   /** Reports that the replica merges a state, given by its messages or by what another replica had `seen`. */
@@ -247,7 +251,11 @@ export class Recorder {
    * `NotRepresentable` before the act, and the history continues without it.
    */
   join<Done>(replica: Key, source: Key, options?: Act<Done>): Promise<Done>;
-  /** Reports a read of this value, or of the value that this function returns. Returns the value. */
+  /**
+   * Reports a read of this value, or of the value that this function returns. Returns the value. That of a set or a
+   * list is an iterable of its elements, and that of an `mvregister` one of its values. Of the kind `any` it is a value
+   * of any sort, which is equal to another one if `isDeepStrictEqual` of `node:util` says so.
+   */
   read<Value>(replica: Key, value: Value | (() => Value | Promise<Value>)): Promise<Value>;
   /**
    * Reports a read of a part of a list: these elements are shown in this order, perhaps with others between. The
@@ -263,6 +271,8 @@ export class Recorder {
   decrement<Done>(replica: Key, options?: Counted<Done>): Promise<Done>;
   /** Reports a register's write of this value. */
   write<Done>(replica: Key, value: unknown, stamp: Told<Stamp, Done>, options?: Sent<Done>): Promise<Done>;
+  /** Reports a write of this value into an `mvregister`, which has no stamp. */
+  write<Done>(replica: Key, value: unknown, options?: Sent<Done>): Promise<Done>;
   /** Reports a set's addition, with the `stamp` of an LWW set or the `identifier` of an OR-Set. */
   add<Done>(
     replica: Key,
@@ -366,9 +376,9 @@ export class Runs {
  * Tests replicas in random runs, one for each seed, and returns the runs that passed.
  *
  * A replica has the methods of its kind (`increment` and `decrement`, `write(value)`, `add(element)` and
- * `remove(element)`, `insertAfter(anchor, element)` and `remove(element)` for the kind `rga`, or
- * `insert(index, element)` and `delete(index)` for the kind `list`), `read()`, and `receive(message)`. They may be
- * asynchronous. A type that only grows has no `decrement`, `remove` or `delete`.
+ * `remove(element)`, `insertAfter(anchor, element)` and `remove(element)` for the kind `rga`, `insert(index, element)`
+ * and `delete(index)` for the kind `list`, or `update(number)` for the kind `any`), `read()`, and `receive(message)`.
+ * They may be asynchronous. A type that only grows has no `decrement`, `remove` or `delete`.
  *
  * An update returns the message that the other replicas receive. The message has the `stamp` of a write, of an LWW
  * set's update or of an insertion, and the `identifier` or `identifiers` of an OR-Set's update if the type exposes

@@ -8,6 +8,6 @@ export { FlakyRun, Refused, ReplicaRaised, ReportFailed } from "./src/errors.js"
 // The names that two of them had in the previous version. The next version removes them.
 export { MonitorExited as MonitorGone, NotRepresentable as CannotTell } from "./src/errors.js";
 export { Monitor } from "./src/monitor.js";
-export { add, decrement, increment, insert, insertAfter, remove, write } from "./src/operations.js";
+export { add, decrement, increment, insert, insertAfter, remove, update, write } from "./src/operations.js";
 export { Recorder } from "./src/recorder.js";
 export { Runs, checkRandom, replay } from "./src/random_runs.js";

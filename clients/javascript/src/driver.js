@@ -303,6 +303,8 @@ function placeOf({ method, arguments: [named] }, shown) {
 function operationOf(kind, step, message, { left, right }) {
   const [first, second] = step.arguments;
   if (kind === "list" && INSERTING.includes(step.method)) return operations.insert(left, second, right);
+  if (kind === "any") return operations.update();
+  if (kind === "mvregister") return operations.write(first);
   if (kind === "register") return operations.write(first, stampOf(step, message));
   if (step.method === "insertAfter") return operations.insertAfter(first, second, stampOf(step, message));
   if (kind === "orset" && step.method === "add") return operations.add(first, { identifier: message.identifier });

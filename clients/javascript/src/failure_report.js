@@ -6,7 +6,7 @@ import { join } from "node:path";
 import { inspect } from "node:util";
 import { MonitorExited, NotLinearizable, Refused } from "./errors.js";
 import { explainViolation } from "./program.js";
-import { observedIdentifiers, parseIdentifiers } from "./shown.js";
+import { firstEqualRead, observedIdentifiers, parseIdentifiers } from "./shown.js";
 import { isOperation } from "./translation.js";
 
 // The largest number of a history's last lines in a message.
@@ -27,12 +27,23 @@ const LIST_MEANINGS = {
   update: "it inserts an element that was inserted before, or names one that was not",
   query: "it does not follow from the updates that it sees",
 };
+// The meanings of the violations of each kind, where they differ.
+const OWN_MEANINGS = {
+  list: LIST_MEANINGS,
+  any: { query: "an earlier read that sees the same updates returned another value" },
+  mvregister: {
+    query: "it does not return exactly the values of the visible writes that no other visible write replaced",
+  },
+};
+// What may be wrong with a violation of an RGA.
+const OTHER_CLOCKS = "if the type does not order its elements by clocks of its own, check it as the kind list";
 const NOT_CAUSAL = "refused not-causal ";
 
 /**
  * The commands of a failed history, described in the user's names. `messageKeys` has the key of each label's message,
  * and `notes` the lines that are printed before the command with a given number. `places`, if any, has the place of
- * each command in a log, which descriptions then begin with.
+ * each command in a log, which descriptions then begin with. `calls` has the call of each message's update of any type,
+ * by the message's key.
  */
 export class FailureReport {
   #translator;
@@ -40,19 +51,24 @@ export class FailureReport {
   #notes;
   #places;
   #commandOf;
+  #calls = new Map();
 
-  constructor(translator, text, messageKeys, notes, places = []) {
+  constructor(translator, text, messageKeys, notes, { places = [], calls = new Map() } = {}) {
     this.#translator = translator;
     this.#messageKeys = messageKeys;
     this.#notes = notes;
     this.#places = places;
     this.commands = text.split("\n").slice(HEADER_LINES, -1);
     this.#commandOf = [...this.commands.keys()].filter((it) => isOperation(this.commands[it]));
+    for (const [label, key] of messageKeys) {
+      if (calls.has(key) && label < this.#commandOf.length) this.#calls.set(this.#commandOf[label], calls.get(key));
+    }
   }
 
   /** Returns a description of the command with this number. */
   describe(command) {
-    const description = this.#describeLine(this.commands[command]);
+    const call = this.#calls.has(command) ? `: ${this.#calls.get(command)}` : "";
+    const description = `${this.#describeLine(this.commands[command])}${call}`;
     return this.#places.length > 0 ? `${this.#places[command]}: ${description}` : description;
   }
 
@@ -97,7 +113,8 @@ export class FailureReport {
    */
   summarize(reply, explanation) {
     const operation = this.describe(this.commands.length - 1);
-    return `${operation}: ${this.describeReply(reply)}${this.#formatExplanation(explanation)}`;
+    const hint = this.#translator.kind === "rga" && reply.startsWith("no ") ? `\n${OTHER_CLOCKS}` : "";
+    return `${operation}: ${this.describeReply(reply)}${this.#formatExplanation(explanation)}${hint}`;
   }
 
   /** Returns the expected result of the last command as `{ value }`, or null if it is unknown. */
@@ -133,8 +150,17 @@ export class FailureReport {
     const verdict = reply.startsWith("no ") ? "not RA-linearizable" : "refused";
     const isRemoval = this.#translator.kind === "orset" && this.commands.at(-1).includes(" remove ");
     if (cause === "query" && isRemoval) return `${verdict}, ${this.#compareIdentifiers()}`;
-    const meanings = this.#translator.kind === "list" ? { ...MEANINGS, ...LIST_MEANINGS } : MEANINGS;
+    if (cause === "query" && this.#translator.kind === "any") {
+      return `${verdict}, ${OWN_MEANINGS.any.query}${this.#describeEqualRead()}`;
+    }
+    const meanings = { ...MEANINGS, ...OWN_MEANINGS[this.#translator.kind] };
     return cause === undefined ? reply : `${verdict}, ${meanings[cause]}`;
+  }
+
+  /** Describes the read that the last command, a read, is compared with. */
+  #describeEqualRead() {
+    const found = firstEqualRead(this.commands);
+    return found === undefined ? "" : `: ${this.describe(found)}`;
   }
 
   /** Compares the identifiers that the last command, a removal, names with those that its replica has. */

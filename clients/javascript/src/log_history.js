@@ -54,7 +54,7 @@ class LogHistory {
 
   /** Returns a report on this text, which names the lines of the log. */
   report(text) {
-    return this.#reports.failureReport(text, this.places);
+    return this.#reports.failureReport(text, { places: this.places });
   }
 }
 
@@ -103,5 +103,12 @@ function obstacle(replicas, events) {
 
 function totals(replicas, events) {
   const deliveries = events.filter((it) => it.operation === DELIVER).length;
-  return `${events.length - deliveries} operations and ${deliveries} deliveries of ${replicas.length} replicas`;
+  const counts = [
+    counted(events.length - deliveries, "operation", "operations"),
+    counted(deliveries, "delivery", "deliveries"),
+    counted(replicas.length, "replica", "replicas"),
+  ];
+  return `${counts[0]} and ${counts[1]} of ${counts[2]}`;
 }
+
+const counted = (count, one, several) => `${count} ${count === 1 ? one : several}`;

@@ -25,6 +25,8 @@ const SHAPES = {
     remove: { required: ["value"], optional: ["message"] },
     [PART]: { required: ["value"], optional: [] },
   },
+  any: { update: { required: [], optional: ["message"] } },
+  mvregister: { write: { required: ["value"], optional: ["message"] } },
 };
 const OF_ANY_KIND = {
   [DELIVER]: { required: ["message"], optional: [] },
@@ -64,6 +66,7 @@ function operationOf(event, kind) {
   if (event.operation === READ || event.operation === PART) return resultOf(event, kind);
   const word = camelCased(event.operation);
   if (kind === "counter") return Array(amountOf(event)).fill({ word });
+  if (kind === "any") return { word };
   if (kind === "register" && event.value === null) {
     const expected = "another value, since null represents an unwritten register";
     throw fieldFault(event.place, "value", event.value, expected);
@@ -80,9 +83,10 @@ function operationOf(event, kind) {
 
 function resultOf(event, kind) {
   if (kind === "counter") return wholeNumber(event, MIN_COUNT, MAX_COUNT);
-  if (kind === "register") return thing(event.value);
+  if (kind === "register" || kind === "any") return thing(event.value);
   if (Array.isArray(event.value)) return event.value.map(thing);
-  throw fieldFault(event.place, "value", event.value, "the list of the elements that the read returned");
+  const what = kind === "mvregister" ? "values" : "elements";
+  throw fieldFault(event.place, "value", event.value, `the list of the ${what} that the read returned`);
 }
 
 const amountOf = (event) => ("value" in event ? wholeNumber(event, 1, MAX_AMOUNT) : 1);

@@ -1,5 +1,6 @@
 // The numbers and names that represent the user's values in the text format.
-import { inspect } from "node:util";
+import { inspect, isDeepStrictEqual } from "node:util";
+import { copied } from "./copies.js";
 import { NotRepresentable } from "./errors.js";
 
 // The largest number of the text format.
@@ -68,6 +69,54 @@ export class Numbering {
   /** Returns the thing with this number, or undefined if the number was reserved. */
   thingOf(number) {
     return this.#things[number - 1];
+  }
+}
+
+/**
+ * Numbers for values of any sort, from 1 up, in the order of their first use. Values that are equal by Node's
+ * `isDeepStrictEqual` have one number.
+ */
+export class ValueNumbering {
+  // For the JSON of each value, copies of the values that have it, with their numbers.
+  #known = new Map();
+  #things = [];
+
+  /** Returns the number of this value, which is a new one at its first use. */
+  numberOf(value) {
+    const text = sortedJson(value);
+    const candidates = this.#known.get(text) ?? [];
+    const found = candidates.find(({ kept }) => isDeepStrictEqual(kept, value));
+    if (found !== undefined) return found.number;
+    const kept = keptCopy(value);
+    const number = this.#things.push(kept);
+    this.#known.set(text, [...candidates, { kept, number }]);
+    return number;
+  }
+
+  /** Returns the value with this number, as it was at its first use. */
+  thingOf(number) {
+    return this.#things[number - 1];
+  }
+}
+
+/** Returns a copy of a value, since what a read returned may change later. */
+function keptCopy(value) {
+  const shown = inspect(value);
+  const kept = typeof value === "symbol" ? value : copied(value, shown, "a value of plain data");
+  if (isDeepStrictEqual(kept, value)) return kept;
+  throw new NotRepresentable(`${shown} is not equal to a copy of itself: expected plain data`);
+}
+
+/** Returns a text that equal values have in common: JSON, with the keys of objects in ascending order. */
+function sortedJson(value) {
+  try {
+    return JSON.stringify(value, (_, it) => {
+      if (typeof it === "bigint") return String(it);
+      if (typeof it !== "object" || it === null || Array.isArray(it)) return it;
+      return Object.fromEntries(Object.entries(it).sort(([one], [other]) => (one < other ? -1 : 1)));
+    }) ?? typeof value;
+  } catch {
+    return "";
   }
 }
 

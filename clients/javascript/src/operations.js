@@ -1,4 +1,4 @@
-// The operations of the six kinds, in the user's own names.
+// The operations of the eight kinds, in the user's own names.
 import { inspect } from "node:util";
 import { NotRepresentable } from "./errors.js";
 
@@ -10,6 +10,8 @@ export const OPERATIONS = {
   orset: ["add", "remove"],
   rga: ["insertAfter", "remove"],
   list: ["insert", "remove"],
+  any: ["update"],
+  mvregister: ["write"],
 };
 /** The kinds whose elements have an order. */
 export const LISTS = ["rga", "list"];
@@ -25,13 +27,19 @@ export function operationsOf(kind) {
 /** Returns the methods of a replica of this kind that update it. Those of a list take an index. */
 export const methodsOf = (kind) => (kind === "list" ? ["insert", "delete"] : operationsOf(kind));
 
+/** Creates an update of an object of the kind `any`, whose effect is not reported. */
+export const update = () => ({ word: "update" });
+
 /** Creates a counter's increment by one. */
 export const increment = () => ({ word: "increment" });
 
 /** Creates a counter's decrement by one. */
 export const decrement = () => ({ word: "decrement" });
 
-/** Creates a register's write of this value. The stamp is a clock, or a clock and its replica. */
+/**
+ * Creates a register's write of this value. The stamp is a clock, or a clock and its replica. The write of a register
+ * that keeps concurrent writes, which is the kind `mvregister`, has no stamp.
+ */
 export const write = (value, stamp) => ({ word: "write", value, stamp });
 
 /**

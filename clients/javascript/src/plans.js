@@ -11,6 +11,10 @@ const VERSION = 2;
 const SEED = /^(\d+)-(-?\d+)$/;
 // A set has few elements, so that updates of one element are concurrent.
 const SET_ELEMENTS = 3;
+// The largest argument of an update of any type, from 1 up: it may derive what it does from the number.
+const LARGEST_ARGUMENT = 1000;
+// The chance that a register with concurrent writes writes one of a few values, so that two of them may be equal.
+const EQUAL_WRITE_CHANCE = 0.2;
 // The values around the bounds of the usual sizes of numbers. All are exact.
 export const BOUNDARIES = [
   0, 1, 127, 128, 255, 256, 65_535, 65_536, 2 ** 31 - 1, 2 ** 31, 2 ** 32 - 1, 2 ** 32, 2 ** 53 - 1,
@@ -267,7 +271,11 @@ export class Planner {
   #chooseOperation(replica) {
     const method = this.#chooseMethod();
     if (this.#kind === "counter") return [method, this.#traits.amounts ? [this.#chooseAmount()] : []];
-    if (this.#kind === "register") return [method, [this.#newValue()]];
+    if (this.#kind === "any") return [method, [this.#random.number(1, LARGEST_ARGUMENT)]];
+    if (this.#kind === "mvregister" && this.#random.chance() < EQUAL_WRITE_CHANCE) {
+      return [method, [this.#random.choice(this.#elements)]];
+    }
+    if (this.#kind === "register" || this.#kind === "mvregister") return [method, [this.#newValue()]];
     if (!LISTS.includes(this.#kind)) return [method, [this.#random.choice(this.#elements)]];
     const visible = this.#state.visible[replica];
     if (REMOVING.includes(method) && visible.length > 0) return [method, [this.#random.choice(visible)]];

@@ -6,7 +6,7 @@ export const DELIVERIES = ["causal", "any"];
 // The relative frequency of each method, unless the caller chooses others.
 export const WEIGHTS = {
   increment: 1, decrement: 1, write: 1, add: 2, remove: 1, insertAfter: 3, insert: 3, delete: 1,
-  insertAt: 3, removeAt: 1,
+  insertAt: 3, removeAt: 1, update: 1,
 };
 /** Which parameter of a counter's update is an amount. */
 export const AMOUNT_RULE = "an amount is the first parameter of each update and is named `by`";

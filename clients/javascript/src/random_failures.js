@@ -21,7 +21,7 @@ const SHOWN_LINES = 40;
  */
 export function createError(setting, small, { seed, summary, failure, stored }) {
   const [history, path] = stored === undefined ? storeFailure(setting, small, seed, failure) : [beside(stored), stored];
-  const report = small.recorder.failureReport(small.text);
+  const report = reportOn(setting, small);
   const operation = operationOf(setting, small);
   const reply = small.raised === undefined ? small.replies.at(-1) : "";
   const explanation = report.explain(small.text, reply, setting.program);
@@ -74,13 +74,24 @@ export function createFlaky(setting, found, again, { seed, summary, failure }) {
 /** Returns what a replica did, and what came of it. */
 function answerOf(setting, failure) {
   if (failure.raised !== undefined) return operationOf(setting, failure);
-  return failure.recorder.failureReport(failure.text).summarize(failure.replies.at(-1), null);
+  return reportOn(setting, failure).summarize(failure.replies.at(-1), null);
+}
+
+/** Returns a report on the failed history, in which an update of any type, whose line has no arguments, has its call. */
+function reportOn({ kind }, { recorder, steps, text, indexes }) {
+  const updates = kind === "any" ? steps.filter(({ action }) => action === "update") : [];
+  return recorder.failureReport(text, new Map(updates.map((it) => [it.number, callOf(it, indexes)])));
+}
+
+function callOf(step, indexes) {
+  return `${step.method}(${callArguments(step, indexes).map((it) => inspect(it)).join(", ")})`;
 }
 
 /** Returns the last command, or the last call with what it threw, or what it returned that cannot be used. */
-function operationOf(setting, { raised, recorder, steps, text, indexes }) {
+function operationOf(setting, failure) {
+  const { raised, steps, indexes } = failure;
   if (raised === undefined) {
-    const report = recorder.failureReport(text);
+    const report = reportOn(setting, failure);
     return report.describe(report.commands.length - 1);
   }
   const outcome = raised.error instanceof Unusable ? raised.error.message : `threw ${raised.error}`;
@@ -158,7 +169,7 @@ function describeCall(setting, step, indexes) {
   const nameOf = (it) => inspect(setting.replicas[it]);
   const name = nameOf(replica);
   const calls = {
-    update: `${method}(${callArguments(step, indexes).map((it) => inspect(it)).join(", ")})`,
+    update: callOf(step, indexes),
     deliver: `receive(message ${number})`,
     duplicate: `receive(message ${number}) again`,
     merge: `merge(state of ${nameOf(number)})`,

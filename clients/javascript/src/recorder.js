@@ -45,12 +45,22 @@ export class Recorder {
 
   /**
    * Reports an update, and returns the result of the act. `message` is the key that its deliveries name. A list of
-   * operations is a composition: it is reported as these operations in their order, with one message.
+   * operations is a composition: it is reported as these operations in their order, with one message. An update of the
+   * kind `any` needs no operation: `update(replica, { act, message })`.
    */
-  update(replica, operation, { act, message } = NONE) {
-    return this.#step("update", replica, [operation], act, (index, result) =>
-      this.#reports.update(index, evaluate(operation, result), evaluate(message, result)),
+  update(replica, operation, options) {
+    const isSaid = options !== undefined || !this.#isOptions(operation, "any");
+    const { act, message } = (isSaid ? options : operation) ?? NONE;
+    const said = isSaid ? operation : undefined;
+    return this.#step("update", replica, [said], act, (index, result) =>
+      this.#reports.update(index, evaluate(said, result), evaluate(message, result)),
     );
+  }
+
+  /** Returns whether this is the options of an update of this kind, in the place of what updates of others have. */
+  #isOptions(given, kind) {
+    const isPlain = typeof given === "object" && given !== null && !Array.isArray(given) && !("word" in given);
+    return isPlain && this.#translator.kind === kind;
   }
 
   /** Reports that the replica applies the message of this key. A repeated delivery runs the act alone. */
@@ -77,7 +87,11 @@ export class Recorder {
     return this.#step("join", source, [], act, (index) => this.#reports.join(replica, index), check);
   }
 
-  /** Reports a read of this value, or of the value that this function returns. Returns the value. */
+  /**
+   * Reports a read of this value, or of the value that this function returns. Returns the value. That of a set or a
+   * list is an iterable of its elements, and that of an `mvregister` one of its values. Of the kind `any` it is a value
+   * of any sort, which is equal to another one if `isDeepStrictEqual` of `node:util` says so.
+   */
   read(replica, value) {
     const act = typeof value === "function" ? value : () => value;
     return this.#step("read", replica, [value], act, (index, result) => this.#reports.read(index, result));
@@ -127,10 +141,16 @@ export class Recorder {
     );
   }
 
-  /** Reports a register's write of this value. */
-  write(replica, value, stamp, { act, message } = NONE) {
-    return this.#step("write", replica, [value, stamp], act, (index, result) =>
-      this.#reports.issue(index, operations.write(value, evaluate(stamp, result)), evaluate(message, result)),
+  /**
+   * Reports a register's write of this value. That of an `mvregister` has no stamp: `write(replica, value, { act,
+   * message })`.
+   */
+  write(replica, value, stamp, options) {
+    const isStamp = !this.#isOptions(stamp, "mvregister");
+    const { act, message } = (isStamp ? options : stamp) ?? NONE;
+    const own = isStamp ? stamp : undefined;
+    return this.#step("write", replica, [value, own], act, (index, result) =>
+      this.#reports.issue(index, operations.write(value, evaluate(own, result)), evaluate(message, result)),
     );
   }
 
@@ -221,9 +241,12 @@ export class Recorder {
     this.#reports.note(text);
   }
 
-  /** Returns a report on this text of this recorder. */
-  failureReport(text) {
-    return this.#reports.failureReport(text);
+  /**
+   * Returns a report on this text of this recorder. `calls`, if given, has the call of each message's update of any
+   * type, by the message's key.
+   */
+  failureReport(text, calls) {
+    return this.#reports.failureReport(text, { calls });
   }
 
   /** Runs `before` and the act, and calls `report` with the replica's number and the act's result. */

@@ -1,5 +1,6 @@
 // The source of a regression test for a small run.
 import { inspect } from "node:util";
+import { DeliveryState } from "./delivery_state.js";
 import { initialReplicas } from "./driver.js";
 import { LISTS } from "./operations.js";
 import { isClass } from "./profile.js";
@@ -16,7 +17,7 @@ const TAKEN = new Set((
   "private protected public replay return static structuredClone super switch test this throw true try typeof " +
   "undefined var void while with yield"
 ).split(" "));
-const OWN_VARIABLE = /^(m|saved|state)\d/;
+const OWN_VARIABLE = /^(m|read|saved|state)\d/;
 const shown = (value) => inspect(value, { breakLength: Infinity, depth: null });
 
 /** The statements of the test, one step after another. */
@@ -115,10 +116,20 @@ class Source {
     this.lines.push(...this.#received.get(replica));
   }
 
+  /** Adds a read whose result the last read has to be equal to. */
+  keepRead({ replica }) {
+    this.lines.push(`const read1 = structuredClone(${this.#wait}${this.variable(replica)}.read());`);
+  }
+
+  /** Adds the last read, which has to be equal to the one that was kept. */
+  compareReads({ replica }) {
+    this.lines.push(`assert.deepEqual(${this.#wait}${this.variable(replica)}.read(), read1);`);
+  }
+
   /** Adds the last read, with its expected result. */
   addAssertion({ replica }, expected) {
     const read = `${this.#wait}${this.variable(replica)}.read()`;
-    if (this.#kind === "lwwset" || this.#kind === "orset") {
+    if (["lwwset", "orset", "mvregister"].includes(this.#kind)) {
       this.lines.push(`assert.deepEqual(new Set(${read}), new Set(${shown(expected)}));`);
     } else if (LISTS.includes(this.#kind)) {
       this.lines.push(`assert.deepEqual([...${this.#wait ? `(${read})` : read}], ${shown(expected)});`);
@@ -138,18 +149,51 @@ export function regressionTest(setting, failure, { seed, expected, path }) {
   const maker = makerOf(setting.makeReplica);
   const { steps } = failure;
   const source = new Source(setting, failure, maker);
-  for (const it of expected === null ? steps : steps.slice(0, -1)) source.add(it);
-  if (expected !== null) source.addAssertion(steps.at(-1), expected.value);
+  const raises = failure.raised && !(failure.raised.error instanceof Unusable);
+  const compared = setting.kind === "any" && !failure.raised ? firstEqualRead(steps, setting.replicas.length) : null;
+  const asserts = expected !== null || compared !== null;
+  for (const [place, it] of (asserts ? steps.slice(0, -1) : steps).entries()) {
+    if (place === compared) source.keepRead(it);
+    else source.add(it);
+  }
+  if (compared !== null) source.compareReads(steps.at(-1));
+  else if (asserts) source.addAssertion(steps.at(-1), expected.value);
   const body = collapsed(source.lines).map((it) => INDENT + it);
   const imports = ['import assert from "node:assert/strict";', 'import { test } from "node:test";'];
   const begin = (wait) => [maker.comment, "", `test("seed ${seed}", ${wait}() => {`];
-  const needed = expected === null ? imports.slice(1) : imports;
+  const needed = asserts ? imports : imports.slice(1);
   const lines = [...needed, ...begin(failure.isAsynchronous ? "async " : ""), ...body];
   // A read whose result cannot be reported throws nothing, and neither does a message that changed.
-  const says = expected !== null || (failure.raised && !(failure.raised.error instanceof Unusable));
+  const says = asserts || raises;
   if (lines.length < MAX_LINES && says && !failure.hasInstances) return `${[...lines, "});"].join("\n")}\n`;
   const replays = [imports[1], 'import { replay } from "yehatu";', ...begin("async ")];
   return `${[...replays, `${INDENT}await replay(${maker.name}, ${JSON.stringify(path)});`, "});"].join("\n")}\n`;
+}
+
+/**
+ * Returns the place of the first read that sees the same updates as the last step, or null if that is the last one
+ * itself, or no read.
+ */
+function firstEqualRead(steps, replicas) {
+  const state = new DeliveryState("", replicas);
+  const taken = new Map();
+  const first = new Map();
+  const handlers = {
+    update: (step) => state.update(step),
+    deliver: ({ replica, number }) => state.arrive(replica, number),
+    merge: ({ replica, number }) => state.merge(replica, state.counts(number)),
+    snapshot: ({ replica, number }) => taken.set(number, state.counts(replica)),
+    merge_snapshot: ({ replica, number }) => state.merge(replica, taken.get(number)),
+    join: ({ replica, number }) => state.join(replica, number),
+  };
+  const seenBy = ({ replica }) => state.counts(replica).join(" ");
+  for (const [place, step] of steps.entries()) {
+    handlers[step.action]?.(step);
+    if (step.action === "read" && !first.has(seenBy(step))) first.set(seenBy(step), place);
+  }
+  const last = steps.at(-1);
+  const found = first.get(seenBy(last)) ?? steps.length;
+  return last.action === "read" && found < steps.length - 1 ? found : null;
 }
 
 /** Returns the name of the function or class, what it makes, and a comment that says where it comes from. */

@@ -71,13 +71,16 @@ export class Reports {
     if (this.failure !== null) throw this.failure;
   }
 
-  /** Returns a report on this text of this history. `places`, if any, has the place of each command in a log. */
-  failureReport(text, places = []) {
+  /**
+   * Returns a report on this text of this history. `places`, if any, has the place of each command in a log, and `calls`
+   * the call of each message's update of any type, by the message's key.
+   */
+  failureReport(text, { places, calls } = {}) {
     const keys = new Map();
     for (const [key, { label, count }] of this.#messages.entries()) {
       for (let at = 0; at < count; at += 1) keys.set(label + at, key);
     }
-    return new FailureReport(this.#translator, text, keys, this.#notes, places);
+    return new FailureReport(this.#translator, text, keys, this.#notes, { places, calls });
   }
 
   /** Adds a line that a failure's message shows before the next report. */
@@ -92,12 +95,21 @@ export class Reports {
 
   /** Reports an operation of this replica, or a list of operations with one message. */
   update(replica, operation, message) {
+    if (operation === undefined || operation === null) return this.issue(replica, this.#unsaid(), message);
     if (!Array.isArray(operation)) return this.issue(replica, operation, message);
     this.#requireNew(message);
     const first = { label: this.#labels, issuer: replica, position: this.#delivered[replica][replica] };
     const full = operation.map((it) => this.issue(replica, it, undefined));
     if (message !== undefined) this.#messages.set(message, { ...first, count: operation.length });
     return whenAll(full);
+  }
+
+  /** Returns the operation of an update whose effect is not reported. */
+  #unsaid() {
+    const { kind } = this.#translator;
+    if (kind === "any") return operations.update();
+    const expected = operations.operationsOf(kind).join(" or ");
+    throw new NotRepresentable(`an update of the kind ${kind} needs its operation: expected ${expected}`);
   }
 
   /** Reports an operation of this replica. */

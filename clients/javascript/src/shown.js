@@ -1,4 +1,4 @@
-// What a history's text says that a replica has: the elements of an LWW set, the identifiers of an OR-Set.
+// What a history's text says that a replica has: the elements of an LWW set, the identifiers of an OR-Set, updates.
 
 /** Returns the updates that were delivered to the replica of this name, in the order of their delivery. */
 function deliveredUpdates(commands, replica) {
@@ -45,6 +45,27 @@ export function observedIdentifiers(commands, replica, element) {
     for (const it of parseIdentifiers(field)) word === "add" ? observed.add(it) : observed.delete(it);
   }
   return observed;
+}
+
+/** Returns the number of the first read that sees the same updates as the last command, which is a read. */
+export function firstEqualRead(commands) {
+  const received = new Map();
+  const first = new Map();
+  const seenBy = (name) => received.get(name) ?? [];
+  const keyOf = (name) => [...seenBy(name)].sort((one, other) => one - other).join(" ");
+  let label = 0;
+  for (const [number, command] of commands.entries()) {
+    const [name, word, field] = command.split(" ");
+    if (name === "join") {
+      received.set(word, seenBy(field));
+      continue;
+    }
+    if (word !== "read") received.set(name, [...seenBy(name), word === "got" ? Number(field) : label]);
+    else if (!first.has(keyOf(name))) first.set(keyOf(name), number);
+    if (word !== "got") label += 1;
+  }
+  const [name, word] = commands.at(-1).split(" ");
+  return word === "read" ? first.get(keyOf(name)) : undefined;
 }
 
 /** Returns the numbers of a field with identifiers. */

@@ -1,11 +1,13 @@
 // Translates between operations in the user's names and lines of the text format.
 import { inspect } from "node:util";
 import { NotRepresentable } from "./errors.js";
-import { Clocks, Numbering, Replicas } from "./numbers.js";
+import { Clocks, Numbering, Replicas, ValueNumbering } from "./numbers.js";
 import { LISTS, operationsOf } from "./operations.js";
 
 export const MIN_COUNT = -2_147_483_648;
 export const MAX_COUNT = 2_147_483_647;
+// A value of any sort is shown as a whole and in one line: two that differ may do so at any depth.
+const WHOLE = { depth: null, compact: true, breakLength: Infinity };
 
 /**
  * The lines of one history, with the user's values that their numbers represent. `nothing` is the result of a
@@ -13,7 +15,7 @@ export const MAX_COUNT = 2_147_483_647;
  */
 export class Translator {
   identifiers = new Numbering();
-  #values = new Numbering();
+  #values;
   #clocks;
   #nothing;
   #operations;
@@ -25,12 +27,14 @@ export class Translator {
     remove: (replica, operation) => this.#formatChange(replica, operation),
     insertAfter: (replica, operation) => this.#formatInsertion(replica, operation),
     insert: (replica, operation) => this.#formatInsertionBetween(operation),
+    update: () => "update",
   };
 
   constructor(kind, replicas, nothing = null, clocks = new Clocks()) {
     this.#clocks = clocks;
     this.#operations = operationsOf(kind);
     this.kind = kind;
+    this.#values = kind === "any" ? new ValueNumbering() : new Numbering();
     this.replicas = new Replicas(replicas);
     this.#nothing = nothing;
   }
@@ -73,6 +77,12 @@ export class Translator {
   }
 
   #formatWrite(replica, operation) {
+    if (this.kind === "mvregister") {
+      if (operation.stamp === undefined) return `write ${this.#values.numberOf(operation.value)}`;
+      throw new NotRepresentable(
+        `the writes of the kind mvregister have no stamps: got ${inspect(operation.stamp)}`,
+      );
+    }
     if (this.#isNothing(operation.value)) {
       throw new NotRepresentable(
         `${inspect(operation.value)} cannot be written, since it represents an unwritten register: ` +
@@ -130,7 +140,10 @@ export class Translator {
       return String(Number(value) + 0);
     }
     if (this.kind === "register") return this.#isNothing(value) ? "none" : this.#values.numberOf(value);
-    if (typeof value?.[Symbol.iterator] !== "function") {
+    if (this.kind === "any") return this.#values.numberOf(value);
+    // Of an `mvregister`, a text is one value, and no collection of values.
+    const isOneValue = this.kind === "mvregister" && typeof value === "string";
+    if (isOneValue || typeof value?.[Symbol.iterator] !== "function") {
       throw new NotRepresentable(`a read returned ${inspect(value)}: expected ${expectedResult(this.kind)}`);
     }
     const numbers = Array.from(value, (it) => this.#values.numberOf(it));
@@ -174,6 +187,7 @@ export class Translator {
     if (word === "insert") return this.#describeInsertion(...fields);
     if (word === "part") return `shows ${this.#describeResult(fields[0])} in this order, perhaps with others between`;
     if (word === "inc" || word === "dec") return `${word}rements`;
+    if (word === "update") return "makes an update";
     const verb = { write: "writes", add: "adds", remove: "removes" }[word];
     const under = fields.length > 1 ? ` under ${this.#describeIdentifiers(fields[1].slice(1))}` : "";
     return `${verb} ${this.#describeValue(fields[0])}${under}`;
@@ -187,14 +201,15 @@ export class Translator {
 
   #describeResult(result) {
     const value = this.resultOf(result);
-    const isList = this.kind !== "counter" && this.kind !== "register";
-    return isList ? `[${value.map((it) => inspect(it)).join(", ")}]` : inspect(value);
+    const isList = !["counter", "register", "any"].includes(this.kind);
+    return isList ? `[${value.map((it) => inspect(it)).join(", ")}]` : inspect(value, WHOLE);
   }
 
   /** Returns the result of a read, from the last field of its line. */
   resultOf(field) {
     if (this.kind === "counter") return Number(field);
     if (this.kind === "register") return field === "none" ? this.#nothing : this.thingOf(field);
+    if (this.kind === "any") return this.thingOf(field);
     return parseNumbers(field).map((it) => this.thingOf(it));
   }
 
@@ -212,7 +227,9 @@ export class Translator {
 /** Describes what a read of this kind has to return. A register's may return anything. */
 export function expectedResult(kind) {
   if (kind === "counter") return `a whole number from ${MIN_COUNT} to ${MAX_COUNT}`;
-  return kind === "register" ? "any value" : "an array or another iterable of the elements";
+  if (kind === "register") return "any value";
+  if (kind === "any") return "a value that can be copied";
+  return `an array or another iterable of the ${kind === "mvregister" ? "values" : "elements"}`;
 }
 
 /** Returns whether a replica joins in this line, which then begins with no name. */

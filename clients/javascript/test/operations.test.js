@@ -173,7 +173,7 @@ test("an error names the call and what was looked for", async () => {
     [(it) => it.read("carl", 1), /read\('carl', 1\): unknown replica 'carl': expected one of \[ 'bob' \]/],
     [(it) => it.increment(["bob"]), /unknown replica \[ 'bob' \]/],
     [(it) => it.write("bob", 4, 1), /write\('bob', 4, 1\): write is not an operation of the kind counter/],
-    [(it) => it.update("bob", undefined), /update\('bob'\): undefined is not an operation of the kind counter/],
+    [(it) => it.update("bob", undefined), /update\('bob'\): an update of the kind counter needs its operation/],
   ];
   for (const [call, message] of cases) {
     const recorder = new Recorder("counter", ["bob"]);

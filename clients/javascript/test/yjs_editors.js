@@ -12,6 +12,15 @@ const MOST_REMOVED = 4;
 const ACTIONS = {
   type: 6, remove: 3, replace: 2, format: 1, embed: 1, push: 3, pull: 2, nest: 1, typeNested: 2, undo: 1,
 };
+// What an editor does with maps, beside that.
+const MAP_ACTIONS = { set: 4, unset: 2, swap: 1, nestMap: 1, setNested: 2 };
+// What an editor does with an XML tree and with the attributes of texts, beside that.
+const XML_ACTIONS = {
+  insertNode: 4, removeNode: 1, setAttribute: 3, unsetAttribute: 1, typeXml: 4, removeXml: 2, formatXml: 3,
+  setHook: 1, setTextAttribute: 1,
+};
+const KEYS = ["title", "size", "owner"];
+const ROOTS = { getText: "text", getMap: "map", getXmlFragment: "page" };
 const NAMES = ["ann", "bob", "cat", "dan", "eve"];
 
 function loadYjs() {
@@ -30,8 +39,13 @@ export class Editors {
   #network;
   #queues;
   #undo;
+  #weights;
+  // The calls that open what each document can undo.
+  #opened;
 
-  constructor(seed, { clients, network, loses = () => false } = {}) {
+  constructor(seed, { clients, network, loses = () => false, maps = false, xml = false } = {}) {
+    this.#weights = { ...ACTIONS, ...(maps ? MAP_ACTIONS : {}), ...(xml ? XML_ACTIONS : {}) };
+    this.#opened = ["getText", ...(maps ? ["getMap"] : []), ...(xml ? ["getXmlFragment"] : [])];
     this.#random = new RandomNumbers(`Yjs ${seed}`);
     const count = clients ?? this.#random.number(3, 5);
     this.#network = network ?? this.#random.choice(NETWORKS);
@@ -57,7 +71,10 @@ export class Editors {
 
   /** Lets editors and the network take this number of steps. */
   run(steps) {
-    this.#undo ??= this.docs.map((doc) => new Y.UndoManager(doc.getText("text"), { captureTimeout: 0 }));
+    this.#undo ??= this.docs.map((doc) => {
+      const types = this.#opened.map((open) => doc[open](ROOTS[open]));
+      return new Y.UndoManager(types, { captureTimeout: 0 });
+    });
     for (let step = 0; step < steps; step += 1) {
       this.steps += 1;
       const at = this.#random.number(0, this.docs.length - 1);
@@ -67,7 +84,7 @@ export class Editors {
   }
 
   #edit(at) {
-    const action = this.#random.weightedChoice(Object.keys(ACTIONS), Object.values(ACTIONS));
+    const action = this.#random.weightedChoice(Object.keys(this.#weights), Object.values(this.#weights));
     const doc = this.docs[at];
     const text = doc.getText("text");
     const array = doc.getArray("array");
@@ -82,8 +99,62 @@ export class Editors {
       nest: () => array.insert(this.#random.number(0, array.length), [new Y.Text(this.#word())]),
       typeNested: () => this.#editNested(array),
       undo: () => this.#undo[at].undo(),
+      ...this.#mapActions(doc),
+      ...(action in XML_ACTIONS ? this.#xmlActions(doc) : {}),
     };
     actions[action]();
+  }
+
+  #mapActions(doc) {
+    const map = doc.getMap("map");
+    const key = () => this.#random.choice(KEYS);
+    const nested = () => [...map.values()].find((it) => it instanceof Y.Map);
+    return {
+      set: () => map.set(key(), this.#random.choice([this.steps, this.#word(), { step: this.steps }, null])),
+      unset: () => map.delete(key()),
+      swap: () => doc.transact(() => (map.delete("title"), map.set("size", 1), map.set("size", this.steps))),
+      nestMap: () => map.set(key(), new Y.Map([["made", this.steps]])),
+      setNested: () => nested()?.set(key(), this.#word()),
+    };
+  }
+
+  #xmlActions(doc) {
+    const page = doc.getXmlFragment("page");
+    const nodes = nodesOf(page);
+    const some = (type) => this.#random.choice(nodes.filter((it) => it instanceof type));
+    const parent = this.#random.choice([page, ...nodes.filter((it) => it instanceof Y.XmlElement)]);
+    const [element, xmlText] = [some(Y.XmlElement), some(Y.XmlText)];
+    const key = () => this.#random.choice(KEYS);
+    return {
+      insertNode: () => parent.insert(this.#random.number(0, parent.length), [this.#node()]),
+      removeNode: () => this.#remove(parent),
+      setAttribute: () => element?.setAttribute(key(), this.#word()),
+      unsetAttribute: () => element?.removeAttribute(key()),
+      typeXml: () => xmlText && this.#type(xmlText),
+      removeXml: () => xmlText && this.#remove(xmlText),
+      formatXml: () => xmlText && this.#format(xmlText),
+      setHook: () => some(Y.XmlHook)?.set(key(), this.steps),
+      setTextAttribute: () => (xmlText ?? doc.getText("text")).setAttribute(key(), this.steps),
+    };
+  }
+
+  /** Returns a new node of an XML tree, most of which have something in them. */
+  #node() {
+    const chance = this.#random.chance();
+    const hook = new Y.XmlHook("hook");
+    if (chance < 0.1) hook.set("made", this.steps);
+    if (chance < 0.1) return hook;
+    if (chance < 0.5) return new Y.XmlText(this.#word());
+    const element = new Y.XmlElement(this.#random.choice(["p", "h1"]));
+    if (chance < 0.8) element.insert(0, [new Y.XmlText(this.#word())]);
+    if (chance < 0.7) element.setAttribute("made", String(this.steps));
+    return element;
+  }
+
+  #format(text) {
+    const [first, length] = [this.#random.number(0, text.length), this.#random.number(1, LONGEST_WORD)];
+    const format = this.#random.choice([{ bold: true }, { bold: null }, { link: { to: this.steps } }]);
+    text.format(first, Math.min(length, text.length - first), format);
   }
 
   #word() {
@@ -138,13 +209,39 @@ export class Editors {
     for (const from of this.docs) for (const to of this.docs) synchronize(from, to);
   }
 
-  /** Returns what each document shows, as texts. Formats are left out: they are no elements. */
+  /** Returns what each document shows, as texts. */
   shown() {
-    const partsOf = ({ insert }) => (typeof insert === "string" ? [...insert] : [insert]);
     return this.docs.map((doc) =>
-      JSON.stringify([doc.getText("text").toDelta().flatMap(partsOf), doc.getArray("array").toJSON()]),
+      JSON.stringify([
+        shownText(doc.getText("text")), doc.getArray("array").toJSON(), sortedEntries(doc.getMap("map").toJSON()),
+        doc.getXmlFragment("page").toArray().map(shownNode),
+      ]),
     );
   }
+}
+
+/** Returns the entries of an object, and those of objects in it, in the order of their keys. */
+function sortedEntries(value) {
+  if (typeof value !== "object" || value === null) return value;
+  return Object.keys(value).sort().map((key) => [key, sortedEntries(value[key])]);
+}
+
+/** Returns the characters and embeds of a text, each with its format, and the attributes of the text. */
+function shownText(text) {
+  const units = ({ insert, attributes }) =>
+    [...(typeof insert === "string" ? insert : [insert])].map((it) => [it, sortedEntries(attributes ?? {})]);
+  return [text.toDelta().flatMap(units), sortedEntries(text.getAttributes())];
+}
+
+function shownNode(node) {
+  if (node instanceof Y.XmlText) return shownText(node);
+  if (node instanceof Y.XmlHook) return [node.hookName, sortedEntries(node.toJSON())];
+  return [node.nodeName, sortedEntries(node.getAttributes()), node.toArray().map(shownNode)];
+}
+
+/** Returns the nodes below a node of an XML tree. */
+function nodesOf(node) {
+  return node.toArray().flatMap((it) => [it, ...(it instanceof Y.XmlElement ? nodesOf(it) : [])]);
 }
 
 /** Lets a document receive what another one has and it lacks. */

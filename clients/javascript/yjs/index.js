@@ -1,37 +1,23 @@
-// Reports the lists of Yjs documents to the monitor: `watch(docs)`, and `close()` at the end of the test.
+// Reports the shared types of Yjs documents to the monitor: `watch(docs)`, and `close()` at the end of the test.
 import { inspect } from "node:util";
 import { NotRepresentable } from "../src/errors.js";
 import { defaultNames } from "../src/profile.js";
 import { Recorder } from "../src/recorder.js";
 import * as unclosed from "../src/unclosed.js";
-import { clockOf, isListName, keyOf, structsFrom, typeName } from "./items.js";
-import { WatchedList } from "./list.js";
+import { changesOf, clockOf, isFormat, isRemoved, keyOf, typeName } from "./items.js";
+import { Elements, ListView } from "./list.js";
+import { ValueView } from "./value.js";
+import { WatchedObject } from "./watched.js";
 
 /**
- * Reports what happens in these documents from now on: each `Y.Array` and `Y.Text`, as the kind `list`, to a monitor of
- * its own. The documents are a list, or an object or a `Map` with their names. They are empty still, and all that
- * change each other are among them.
+ * Reports what happens in these documents from now on: each `Y.Array` and `Y.Text` as the kind `list`, and each other
+ * shared type, and the formatting of a `Y.Text`, as the kind `any`, to a monitor of its own. The documents are a list,
+ * or an object or a `Map` with their names. They are empty still, and all that change each other are among them.
  */
 export const watch = (docs, options) => new Watcher(docs, options);
 
-/** The elements of all lists, by their identities. */
-class Elements {
-  #clients = new Map();
-
-  get(client, clock) {
-    return this.#clients.get(client)?.get(clock);
-  }
-
-  /** Adds an element of a list. Returns undefined if it exists. */
-  add(list, { client, clock, value }, name) {
-    if (!this.#clients.has(client)) this.#clients.set(client, new Map());
-    const clocks = this.#clients.get(client);
-    if (clocks.has(clock)) return undefined;
-    const element = { list, client, clock, value, name, removals: [] };
-    clocks.set(clock, element);
-    return element;
-  }
-}
+const LISTS = ["Y.Array", "Y.Text"];
+const VALUES = ["Y.Map", "Y.XmlFragment", "Y.XmlElement", "Y.XmlText", "Y.XmlHook"];
 
 /** A document, with the clients that it was so far: Yjs changes the number of one whose number another one uses. */
 class Replica {
@@ -57,8 +43,8 @@ export class Watcher {
   #replicas;
   #options;
   #elements = new Elements();
-  // The lists by their keys, each with its description and its recorder.
-  #lists = new Map();
+  // The watched objects by the keys of their shared types. A text is two: its list and its formatting.
+  #objects = new Map();
   // The descriptions of what is not checked.
   #unchecked = new Set();
   #handlers = [];
@@ -73,17 +59,29 @@ export class Watcher {
     this.#openKey = unclosed.register(this, `the watch(..) that was called at ${unclosed.placeOf(new Error().stack)}`);
   }
 
-  /** Reports what a user of this shared type sees, such as an editor with a copy: a text, or a list of values. */
+  /** Reports what a user of this shared type sees, such as an editor with a copy of a text. */
   read(type, shown) {
     const index = this.#replicas.findIndex((it) => it.doc === type.doc);
     if (index < 0) throw new TypeError("the shared type is of no watched document");
-    this.#guarded(() => this.#listOf(type)?.list.read(index, typeof shown === "string" ? shown.split("") : [...shown]));
+    if (type.doc._transaction !== null) throw new Error("a transaction is running: report what is shown after it");
+    this.#report(index);
+    const values = typeof shown === "string" ? shown.split("") : shown;
+    const isList = typeof values?.[Symbol.iterator] === "function";
+    const object = this.#objectsOf(type).find((it) => (it.kind === "list") === isList);
+    if (object === undefined || typeof values !== "object") {
+      const expected = isList ? "an object" : "a text or a list";
+      throw new TypeError(`${this.#labelOf(type)} is shown as ${inspect(shown)}: expected ${expected}`);
+    }
+    this.#guarded(() => {
+      object.begin();
+      object.read(index, isList ? [...values] : values);
+    });
   }
 
   /** Waits for the replies to all reports so far. Rejects with the first failure. */
   async settle() {
     if (this.#failure !== null) throw this.#failure;
-    for (const { label, recorder } of this.#lists.values()) await named(label, recorder.settle());
+    for (const { label, recorder } of this.#begun()) await named(label, recorder.settle());
   }
 
   /**
@@ -99,49 +97,69 @@ export class Watcher {
   async stop() {
     unclosed.close(this.#openKey);
     for (const [doc, event, handler] of this.#handlers.splice(0)) doc.off(event, handler);
-    await Promise.all([...this.#lists.values()].map(({ recorder }) => recorder.stop()));
+    await Promise.all(this.#begun().map(({ recorder }) => recorder.stop()));
   }
 
   async #close(isComplete) {
-    const lists = [...this.#lists.values()];
+    for (const [index, { doc }] of this.#replicas.entries()) if (doc._transaction === null) this.#report(index);
+    const objects = this.#begun();
     try {
-      for (const { list } of lists) this.#guarded(() => list.finish(isComplete));
+      for (const it of objects) this.#guarded(() => it.finish(isComplete));
       if (this.#failure !== null) throw this.#failure;
-      if (lists.length === 0) {
-        throw new NotRepresentable("no Y.Array and no Y.Text changed while it was watched, so nothing was checked");
+      if (objects.length === 0) {
+        throw new NotRepresentable("no shared type changed while it was watched, so nothing was checked");
       }
       const reports = [];
-      for (const { label, recorder } of lists) reports.push({ name: label, ...(await named(label, recorder.close())) });
-      return this.#summaryOf(lists, reports);
+      for (const { label, recorder } of objects) {
+        reports.push({ name: label, ...(await named(label, recorder.close())) });
+      }
+      return this.#summaryOf(objects, reports);
     } finally {
       await this.stop();
     }
   }
 
-  #summaryOf(lists, reports) {
-    const tooLong = lists.filter(({ list }) => list.isTooLong).map(({ label }) => `${label}, while it was too long`);
+  #summaryOf(objects, reports) {
+    const tooLong = objects.filter((it) => it.isTooLong).map(({ label }) => `${label}, while it was too long`);
     return {
       labels: reports.reduce((sum, it) => sum + it.labels, 0),
-      lists: reports,
-      held: lists.reduce((sum, { list }) => sum + list.held, 0),
+      lists: reports.filter((it) => it.kind === "list"),
+      objects: reports.filter((it) => it.kind === "any"),
+      held: objects.reduce((sum, it) => sum + it.held, 0),
       unchecked: [...this.#unchecked, ...tooLong],
     };
   }
 
+  /** Returns all watched objects. */
+  #all() {
+    return [...this.#objects.values()].flat();
+  }
+
+  /** Returns the watched objects that are reported. */
+  #begun() {
+    return this.#all().filter(({ recorder }) => recorder !== null);
+  }
+
   // A transaction is reported when it has ended, before its observers are called, which may begin others.
   #listen(replica, index) {
-    const report = () => {
-      const transaction = replica.open;
-      replica.open = null;
-      if (transaction !== null) this.#guarded(() => this.#observe(index, transaction));
-    };
     this.#on(replica.doc, "beforeTransaction", (transaction) => {
-      report();
+      this.#report(index);
       replica.open = transaction;
     });
     this.#on(replica.doc, "beforeObserverCalls", (transaction) => {
-      if (replica.open === transaction) report();
+      if (replica.open === transaction) this.#report(index);
     });
+  }
+
+  /**
+   * Reports the transaction of this document that is not reported yet, if there is one. That of an observer has ended,
+   * and is otherwise reported when another one begins or when the observers have returned.
+   */
+  #report(index) {
+    const replica = this.#replicas[index];
+    const transaction = replica.open;
+    replica.open = null;
+    if (transaction !== null) this.#guarded(() => this.#observe(index, transaction));
   }
 
   #on(doc, event, handler) {
@@ -165,84 +183,85 @@ export class Watcher {
     const before = (client) => transaction.beforeState.get(client) ?? 0;
     const others = [...doc.store.clients.keys()].filter((it) => it !== doc.clientID);
     const hasReceived = others.some((it) => clockOf(doc, it) > before(it));
-    const touched = new Set([...transaction.changed.keys()].map((it) => this.#lists.get(keyText(it))?.list));
+    const touched = new Set([...transaction.changed.keys()].flatMap((it) => this.#objects.get(keyText(it)) ?? []));
     if (!transaction.local || hasReceived) {
-      for (const { list } of this.#lists.values()) if (list.receive(index)) touched.add(list);
+      for (const it of this.#all()) if (it.receive(index)) touched.add(it);
     }
     if (transaction.local) {
-      const isNew = ({ client, clock }) => client === doc.clientID && clock >= before(client);
-      const removed = this.#removedBy(transaction);
-      for (const list of new Set([...this.#changedBy(doc, before(doc.clientID)), ...removed.keys()])) {
-        list.change(index, removed.get(list) ?? [], isNew);
-        touched.add(list);
+      for (const [type, changes] of changesOf(transaction)) {
+        for (const it of this.#change(index, type, changes)) touched.add(it);
       }
     }
-    for (const it of touched) it?.read(index);
+    for (const it of touched) it.read(index);
   }
 
-  /** Returns the lists in which this document inserted something, from this clock on. */
-  #changedBy(doc, clock) {
-    const types = new Map();
-    for (const { parent, parentSub } of structsFrom(doc, doc.clientID, clock)) {
-      if (parent) types.set(parent, parentSub);
+  /** Reports what a transaction did to this shared type. Returns the objects that it changed. */
+  #change(index, type, changes) {
+    if (isRemoved(type)) return [];
+    const objects = this.#objectsOf(type);
+    const items = changes.inserted.map(({ item }) => item);
+    if (items.some(({ content }) => content?.doc !== undefined)) {
+      this.#noteUnchecked(`a subdocument in ${this.#labelOf(type)}`, "watch it by itself");
     }
-    return [...types].flatMap(([type, parentSub]) => this.#listOf(type, parentSub)?.list ?? []);
-  }
-
-  /** Returns the elements that a transaction removed, by their lists. */
-  #removedBy(transaction) {
-    const removed = new Map();
-    for (const [client, clock] of identitiesOf(transaction.deleteSet)) {
-      const element = this.#elements.get(client, clock);
-      if (element === undefined) continue;
-      if (!removed.has(element.list)) removed.set(element.list, []);
-      removed.get(element.list).push(element);
+    const isFormatted = items.some((it) => it.parentSub !== null || isFormat(it));
+    for (const it of objects) {
+      if (isFormatted) it.begin();
+      it.change(index, changes);
     }
-    return removed;
+    return objects;
   }
 
-  /** Returns the list of a shared type, or undefined if it is none, which is noted. */
-  #listOf(type, parentSub = null) {
+  /** Returns the watched objects of a shared type, or none if it is unknown, which is noted. */
+  #objectsOf(type) {
     const text = keyText(type);
-    const name = typeName(type);
-    const isList = isListName(name);
-    if (parentSub !== null || !isList) {
-      this.#noteUnchecked(`${isList ? "the attributes of " : ""}${this.#labelOf(type)}`);
-      return undefined;
-    }
-    if (!this.#lists.has(text)) this.#lists.set(text, this.#watchedList(type, name));
-    return this.#lists.get(text);
+    if (!this.#objects.has(text)) this.#objects.set(text, this.#created(type));
+    return this.#objects.get(text);
   }
 
-  #watchedList(type, name) {
-    const recorder = new Recorder("list", this.#replicas.map((it) => it.name), this.#options);
+  #created(type) {
+    const name = typeName(type);
+    const label = this.#labelOf(type);
+    if (LISTS.includes(name)) {
+      const list = this.#watched(type, { label, kind: "list" });
+      list.begin();
+      if (name !== "Y.Text") return [list];
+      // Most texts have no formatting, which begins with the first format or attribute.
+      return [list, this.#watched(type, { label: `the formatting of ${label}`, kind: "any" })];
+    }
+    if (VALUES.includes(name)) {
+      const value = this.#watched(type, { label, kind: "any" });
+      value.begin();
+      return [value];
+    }
+    this.#noteUnchecked(label, "it is no shared type of Yjs that is known");
+    return [];
+  }
+
+  #watched(type, { label, kind }) {
+    const name = typeName(type);
+    const replicas = this.#replicas;
+    const view = kind === "list" ? new ListView({ name, replicas, elements: this.#elements }) : new ValueView(name);
     const key = type._item ? { id: type._item.id } : { root: keyOf(type) };
-    const list = new WatchedList({ key, type: name, replicas: this.#replicas, elements: this.#elements, recorder });
-    return { label: this.#labelOf(type), list, recorder };
+    const createRecorder = () => new Recorder(kind, replicas.map((it) => it.name), this.#options);
+    return new WatchedObject({ label, kind, key, view, replicas, createRecorder });
   }
 
   #labelOf(type) {
-    const place = type._item ? `in the item ${keyOf(type)}` : inspect(keyOf(type));
-    return `${typeName(type)} ${place}`;
+    if (!type._item) return `${typeName(type)} ${inspect(keyOf(type))}`;
+    const node = type.nodeName ?? type.hookName;
+    return `${typeName(type)}${node === undefined ? "" : ` <${node}>`} in the item ${keyOf(type)}`;
   }
 
-  #noteUnchecked(label) {
+  #noteUnchecked(label, reason) {
     if (this.#unchecked.has(label)) return;
     this.#unchecked.add(label);
-    process.emitWarning(`${label} is not checked: only Y.Array and Y.Text are`, "YehatuWarning");
+    process.emitWarning(`${label} is not checked: ${reason}`, "YehatuWarning");
   }
 }
 
 const keyText = (type) => `${type._item ? "item" : "root"} ${keyOf(type)}`;
 
-/** Yields the identities in a set of removed items. */
-function* identitiesOf(deleteSet) {
-  for (const [client, ranges] of deleteSet.clients) {
-    for (const { clock, len } of ranges) for (let at = 0; at < len; at += 1) yield [client, clock + at];
-  }
-}
-
-/** Waits for a result. An error says in which list it is. */
+/** Waits for a result. An error says in which object it is. */
 async function named(label, pending) {
   try {
     return await pending;

@@ -1,134 +1,62 @@
-// One shared list of several documents, reported as the kind `list`.
+// The lists of Yjs, which are reported as the kind `list`: how a transaction changes one, and what it shows.
 import { NotRepresentable } from "../src/errors.js";
 import { insert, remove } from "../src/operations.js";
-import { clockOf, isRemoved, structAt, typeOf, unitsOf } from "./items.js";
+import { unitsOf } from "./items.js";
 import { elementsOf, shortly, shownName, valuesOf } from "./shown.js";
 
 // The largest number of elements of a read: a line of the text format has at most 1,048,576 bytes.
 const MOST_READ = 100_000;
-const ignore = () => {};
 
-/**
- * A list. The changes of one transaction of one document are a message. A document has received a message when its
- * state vector and its removed items say so. The message is reported as delivered once those are that its sender had,
- * so that deliveries are causal also if those of Yjs are not. A document that shows more than what was reported as
- * delivered is not read until then.
- */
-export class WatchedList {
-  /** The number of reads that were not reported since the document showed a message before those that it needs. */
-  held = 0;
-  /** Whether a read was too long to be reported. */
-  isTooLong = false;
+/** The elements of all lists, by their identities. */
+export class Elements {
+  #clients = new Map();
+
+  get(client, clock) {
+    return this.#clients.get(client)?.get(clock);
+  }
+
+  /** Adds an element. Returns undefined if it exists. */
+  add({ client, clock, value }, name) {
+    if (!this.#clients.has(client)) this.#clients.set(client, new Map());
+    const clocks = this.#clients.get(client);
+    if (clocks.has(clock)) return undefined;
+    const element = { client, clock, value, name, removals: [] };
+    clocks.set(clock, element);
+    return element;
+  }
+}
+
+/** A `Y.Array` or a `Y.Text`. */
+export class ListView {
+  #name;
   #replicas;
   #elements;
-  #key;
-  #type;
-  #recorder;
-  // The messages in the order in which they were made, which is causal, and those of each replica.
-  #messages = [];
-  #sent;
-  // For each replica, how many messages of each other one were reported as delivered to it, and of its own as issued.
-  #delivered;
-  // Whether the replica shows what was reported as delivered to it, and no more.
-  #isClosed;
   // The last read of each replica: its values and its elements.
   #earlier = [];
 
-  /** `type` is its kind of shared type, and `elements` the known elements of all lists. */
-  constructor({ key, type, replicas, elements, recorder }) {
-    this.#key = key;
-    this.#type = type;
+  /** `name` is its kind of shared type, and `elements` the known elements of all lists. */
+  constructor({ name, replicas, elements }) {
+    this.#name = name;
     this.#replicas = replicas;
     this.#elements = elements;
-    this.#recorder = recorder;
-    this.#sent = replicas.map(() => []);
-    this.#delivered = replicas.map(() => replicas.map(() => 0));
-    this.#isClosed = replicas.map(() => true);
   }
 
-  /** Reports what this replica did in a transaction: the removal of these elements, and what it inserted since. */
-  change(replica, removed, isNew) {
-    const type = typeOf(this.#replicas[replica].doc, this.#key);
-    if (type === undefined || isRemoved(type)) return;
-    const units = unitsOf(type);
-    if (!this.#isClosed[replica]) this.#refresh(replica);
-    const needs = this.#needsOf(replica);
-    const operations = [...removed.map((it) => remove(it.name)), ...this.#insertions(replica, units, isNew)];
-    if (operations.length === 0) return;
-    const added = units.filter(isNew);
-    const message = { sender: replica, sequence: needs[replica], needs, ranges: rangesOf(added), removed, operations };
-    for (const it of removed) it.removals.push(message);
-    message.number = this.#messages.push(message);
-    this.#sent[replica].push(message);
-    this.#advance(replica);
+  /** Returns the operations of a change, and the elements that it removed. */
+  changeOf(replica, type, changes) {
+    const removed = changes.removed.flatMap(({ client, clock }) => this.#elements.get(client, clock) ?? []);
+    const insertions = this.#insertions(replica, unitsOf(type), changes.inserted[0]);
+    return { removed, operations: [...removed.map((it) => remove(it.name)), ...insertions] };
   }
 
-  /** Reports what a transaction brought to this replica. Returns whether there was anything. */
-  receive(replica) {
-    const hasMoved = this.#advance(replica);
-    this.#refresh(replica);
-    return hasMoved;
-  }
-
-  /** Finds out whether the replica shows what was reported as delivered to it, and no more. */
-  #refresh(replica) {
-    this.#isClosed[replica] = this.#sent.every((messages, sender) => {
-      const missing = messages.slice(this.#delivered[replica][sender]);
-      return sender === replica ? missing.length === 0 : !missing.some((it) => this.#isVisible(it, replica));
-    });
-  }
-
-  /** Reports what this replica shows, or the values that its user sees in their place. */
-  read(replica, shown) {
-    if (!this.#isClosed[replica]) this.#refresh(replica);
-    if (!this.#isClosed[replica]) {
-      this.held += 1;
-      return;
-    }
-    const type = typeOf(this.#replicas[replica].doc, this.#key);
-    if (type !== undefined && !isRemoved(type)) this.#report(replica, type, shown);
-  }
-
-  /**
-   * Ends the history. If the run is complete, each message is reported as delivered to each replica, so that one that
-   * lacks a message is found by its read.
-   */
-  finish(isComplete) {
-    if (isComplete) {
-      for (const it of this.#messages) if (!this.#isIssued(it)) this.#issueLate(it);
-    }
-    for (const [replica, { doc }] of this.#replicas.entries()) {
-      const type = typeOf(doc, this.#key);
-      if (this.#wasRemoved(doc, type)) continue;
-      if (isComplete) this.#complete(replica, type);
-      else this.read(replica);
-    }
-  }
-
-  /** Returns whether the document has removed the list. Then it may still have the item that held it. */
-  #wasRemoved(doc, type) {
-    const { id } = this.#key;
-    if (type !== undefined) return isRemoved(type);
-    return id !== undefined && structAt(doc, id.client, id.clock) !== undefined;
-  }
-
-  /** Reports all messages as delivered to this replica, and what it shows. */
-  #complete(replica, type) {
-    for (const it of this.#messages) if (!this.#isDelivered(it, replica)) this.#deliverLate(it, replica);
-    this.#report(replica, type);
-  }
-
-  #report(replica, type, shown) {
+  /** Returns the elements that this replica shows, or that its user sees, or undefined if there are too many. */
+  valueOf(replica, type, shown) {
     const units = type === undefined ? [] : unitsOf(type);
-    if (units.length > MOST_READ) {
-      this.isTooLong = true;
-      return;
-    }
-    const values = shown ?? (type === undefined ? [] : valuesOf(type, this.#type, units));
+    if (units.length > MOST_READ) return undefined;
+    const values = shown ?? (type === undefined ? [] : valuesOf(type, this.#name, units));
     const nameOf = (unit) => shownName(this.#elementOf(replica, unit), unit.value);
-    const elements = elementsOf(values, units, this.#type, nameOf, this.#earlier[replica]);
+    const elements = elementsOf(values, units, this.#name, nameOf, this.#earlier[replica]);
     this.#earlier[replica] = { values, elements };
-    this.#keep(this.#recorder.read(this.#replicas[replica].name, elements));
+    return elements;
   }
 
   #elementOf(replica, { client, clock, value }) {
@@ -141,8 +69,10 @@ export class WatchedList {
     );
   }
 
-  /** Returns the insertions of the new units, each between those that it stands between. */
-  #insertions(replica, units, isNew) {
+  /** Returns the insertions of the new units, from the first inserted item on, each between its two neighbours. */
+  #insertions(replica, units, first) {
+    if (first === undefined) return [];
+    const isNew = ({ client, clock }) => client === first.client && clock >= first.clock;
     const rights = [];
     units.reduceRight((right, unit, at) => {
       rights[at] = right;
@@ -151,123 +81,10 @@ export class WatchedList {
     const { name } = this.#replicas[replica];
     return units.flatMap((unit, at) => {
       if (!isNew(unit)) return [];
-      const element = this.#elements.add(this, unit, `${shortly(unit.value)} ${this.#replicas[replica].ownerOf(unit)}`);
+      const element = this.#elements.add(unit, `${shortly(unit.value)} ${this.#replicas[replica].ownerOf(unit)}`);
       const nameOf = (it) => (it === undefined ? null : this.#elementOf(replica, it).name);
       if (element === undefined) throw new NotRepresentable(`${name} inserted ${unit.client}:${unit.clock} twice`);
       return [insert(nameOf(units[at - 1]), element.name, nameOf(rights[at]))];
     });
   }
-
-  /** Returns how many messages of each replica a change at this one follows, by itself or by another one. */
-  #needsOf(replica) {
-    const direct = this.#sent.map((messages, sender) => {
-      if (sender === replica) return messages.length;
-      const delivered = this.#delivered[replica][sender];
-      if (this.#isClosed[replica]) return delivered;
-      const last = messages.slice(delivered).findLastIndex((it) => this.#isVisible(it, replica));
-      return delivered + last + 1;
-    });
-    const last = direct.flatMap((count, sender) => this.#sent[sender][count - 1] ?? []);
-    return direct.map((count, sender) => Math.max(count, ...last.map((it) => it.needs[sender])));
-  }
-
-  /** Reports all that can be reported at this replica, and then at those that waited for it. */
-  #advance(first) {
-    const queue = [first];
-    let hasMoved = false;
-    while (queue.length > 0) {
-      const replica = queue.shift();
-      for (let it = this.#next(replica); it !== undefined; it = this.#next(replica)) {
-        hasMoved ||= replica === first;
-        if (it.sender === replica) {
-          this.#issue(it);
-          this.#replicas.forEach((_, other) => other !== replica && queue.push(other));
-        } else {
-          this.#deliver(it, replica);
-        }
-      }
-    }
-    return hasMoved;
-  }
-
-  /**
-   * Returns a message that can be reported at this replica, or undefined. One of its own that waits is reported before
-   * those that it does not follow.
-   */
-  #next(replica) {
-    const delivered = this.#delivered[replica];
-    const own = this.#sent[replica][delivered[replica]];
-    return this.#sent.map((messages, sender) => messages[delivered[sender]]).find((it) => {
-      if (it === undefined || !it.needs.every((count, sender) => count <= delivered[sender])) return false;
-      if (own !== undefined && it !== own && it.sequence >= own.needs[it.sender]) return false;
-      return it.sender === replica || (this.#isIssued(it) && this.#isPresent(it, replica));
-    });
-  }
-
-  #isIssued({ sender, sequence }) {
-    return sequence < this.#delivered[sender][sender];
-  }
-
-  #isDelivered({ sender, sequence }, replica) {
-    return sequence < this.#delivered[replica][sender];
-  }
-
-  /** Returns whether the document has all of a message. */
-  #isPresent({ ranges, removed }, replica) {
-    const { doc } = this.#replicas[replica];
-    return ranges.every(({ client, end }) => clockOf(doc, client) >= end) && removed.every((it) => isGone(doc, it));
-  }
-
-  /** Returns whether the document has a part of a message, other than removals that were reported in another one. */
-  #isVisible({ ranges, removed }, replica) {
-    const { doc } = this.#replicas[replica];
-    if (ranges.some(({ client, start }) => clockOf(doc, client) > start)) return true;
-    const isReported = (it) => it.removals.some((message) => this.#isDelivered(message, replica));
-    return removed.some((it) => isGone(doc, it) && !isReported(it));
-  }
-
-  #issue(message) {
-    this.#delivered[message.sender][message.sender] += 1;
-    const { name } = this.#replicas[message.sender];
-    this.#keep(this.#recorder.update(name, message.operations, { message: message.number }));
-  }
-
-  #deliver(message, replica) {
-    this.#delivered[replica][message.sender] += 1;
-    this.#keep(this.#recorder.deliver(this.#replicas[replica].name, message.number));
-  }
-
-  /** Reports a message that its sender made when it lacked others. */
-  #issueLate(message) {
-    const { sender, needs } = message;
-    for (const it of this.#messages) {
-      if (it.sequence < needs[it.sender] && !this.#isDelivered(it, sender)) this.#deliverLate(it, sender);
-    }
-    this.#issue(message);
-  }
-
-  #deliverLate(message, replica) {
-    const { name } = this.#replicas[replica];
-    if (!this.#isPresent(message, replica)) {
-      this.#recorder.note(`${name} has not applied all of message ${message.number} at the end of the run`);
-    }
-    this.#deliver(message, replica);
-  }
-
-  // A failed report is thrown when the recorder is closed.
-  #keep(reported) {
-    reported.catch(ignore);
-  }
-}
-
-const isGone = (doc, { client, clock }) => structAt(doc, client, clock)?.deleted === true;
-
-/** Returns the first and the last clock of each client in the units. */
-function rangesOf(units) {
-  const ranges = new Map();
-  for (const { client, clock } of units) {
-    const range = ranges.get(client) ?? { client, start: clock, end: clock };
-    ranges.set(client, { client, start: Math.min(range.start, clock), end: Math.max(range.end, clock + 1) });
-  }
-  return [...ranges.values()];
 }

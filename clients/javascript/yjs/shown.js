@@ -1,5 +1,6 @@
 // What a user sees of a list of Yjs, and which elements that is.
 import { inspect } from "node:util";
+import { keyOf } from "./items.js";
 
 const LONGEST_VALUE = 24;
 
@@ -25,6 +26,20 @@ export function valuesOf(type, name, units) {
   if (name === "Y.Text" && typeof type.toDelta === "function") return type.toString().split("");
   if (name === "Y.Array" && typeof type.toArray === "function") return type.toArray();
   return compared(units, name).map((it) => it.value);
+}
+
+/**
+ * Returns what represents a value in a read of another object. A shared type is watched by itself, so its identity
+ * represents it, with the name of an XML element, which never changes.
+ */
+export function representedBy(value) {
+  if (typeof value !== "object" || value === null) return value;
+  if ("_start" in value) {
+    const node = value.nodeName ?? value.hookName;
+    const name = node === undefined ? "a shared type" : `a shared type <${node}>`;
+    return `${name}, ${value._item ? keyOf(value) : "not in a document"}`;
+  }
+  return "guid" in value && "share" in value ? `a document, ${value.guid}` : value;
 }
 
 /** Returns the units whose values are compared with those that are shown. */
