@@ -230,9 +230,9 @@ module _ (records : Records) (label : Label) (here : Contains (labels_of records
     required =
         λ condition among. elim (head_or_behind narrow [] condition among) [
           | inl same ↦ subst (IsRequired records) same (λ b first. (
-              label.number,
-              Answer label full_value (label_at_each_number-found records label here) asked narrows,
-            ))
+            label.number,
+            Answer label full_value (label_at_each_number-found records label here) asked narrows,
+          ))
           | inr further ↦ absurd (none_there condition further)
         ];
     met =

@@ -78,8 +78,8 @@ module _ (records : Records) (of_kind : EachLabelIsOfKind Rga records) where
   reason_final (Stuck set) (conditions, demanded, stuck) =
       stuck_set_is_final records conditions set.items
       (λ condition b there before.
-          let (c, is, must) = demanded condition b there before in
-          (c, subst (λ cs. Contains cs c) (sym is) (at_head c [] c refl), must)) stuck
+      let (c, is, must) = demanded condition b there before in
+      (c, subst (λ cs. Contains cs c) (sym is) (at_head c [] c refl), must)) stuck
 
 -- ---- the reasons of insertions
 pub twice_reason : (records : Records) (operations : List Op) → AreListed records operations → (m n x : ℕ) → ¬ (m ≡ n)
