@@ -1,2 +1,3 @@
 pub mod ReportedLabels
 pub mod ListedOperations
+pub mod Extents

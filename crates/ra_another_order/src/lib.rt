@@ -6,12 +6,17 @@
 //! kind (`ra_any_order`, `ra_rga_precedence`).
 //!
 //! Contract for the crates above: `another_order` returns an order that explains the labels, or a reason by which no
-//! sequence at all is an RA-linearization (`specs/Answers`).
+//! sequence at all is an RA-linearization (`specs/Answers`). `explained_labels` returns how many of the first labels
+//! some order explains (`specs/Extent`).
 #![tactic(auto)]
 
 mod answer;
+mod ends;
+mod extent;
 mod operations;
 mod question;
+mod search;
 
 pub use answer::{Answer, Reason};
+pub use extent::explained_labels;
 pub use question::another_order;

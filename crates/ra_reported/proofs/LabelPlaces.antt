@@ -1,17 +1,18 @@
 -- Lemmas on the places of labels in a log.
-use Rattle.std.proofs.Common.{◌≡◌, ℕ, ◌+◌, ◌<◌, List, [], ◌∷◌, ◌++◌, Some, length, get_or, take, refl, sym, ap, subst, ◌∙◌, length-append, inl, inr}
+use Rattle.std.proofs.Common.{◌≡◌, ℕ, ◌+◌, ◌<◌, ◌≤◌, List, [], ◌∷◌, ◌++◌, Some, length, get_or, take, drop, refl, sym, ap, subst, ◌∙◌, length-append, inl, inr}
 use Rattle.std.specs.List.{slice_get}
 use Rattle.std.proofs.lemmas.Bool.{cases_eq}
 use Rattle.std.proofs.lemmas.Option.{same_Some}
-use Rattle.std.proofs.lemmas.List.{take_more}
+use Rattle.std.proofs.lemmas.List.{take_more, take-take, take-append-drop}
 use Rattle.ra_labels.specs.declared.kind.Kind.{Kind}
 use Rattle.ra_labels.specs.declared.command.Command.{Command}
-use Rattle.ra_labels.specs.Records.{label_count}
+use Rattle.ra_labels.specs.Records.{Records, label_count}
 use Rattle.ra_labels.specs.HistorySoFar.{History, empty_history}
 use Rattle.ra_monitor.specs.Monitor.{MonitorEntry, commands_of}
 use Rattle.ra_reported.specs.Reported.{reported_after, reported_after_all, reported_in, IsPlaceOf}
 use Rattle.ra_reported.specs.Reading.{IsPlaceAdded}
 use Rattle.ra_reported.proofs.Listed.{at_end, elsewhere}
+use Rattle.ra_reported.proofs.Records.{form, grows}
 
 commands_append : (entries : List MonitorEntry) (entry : MonitorEntry)
     → commands_of (entries ++ entry ∷ []) ≡ commands_of entries ++ entry.command ∷ []
@@ -23,7 +24,36 @@ reported_append : (past : History) (commands : List Command) (command : Command)
 reported_append past [] command = refl
 reported_append past (first ∷ commands) command = reported_append (reported_after past first) commands command
 
+commands_apart : (first second : List MonitorEntry) → commands_of (first ++ second) ≡ commands_of first ++ commands_of second
+commands_apart [] second = refl
+commands_apart (entry ∷ first) second = ap (λ cs. entry.command ∷ cs) (commands_apart first second)
+
+reported_apart : (past : History) (first second : List Command)
+    → reported_after_all past (first ++ second) ≡ reported_after_all (reported_after_all past first) second
+reported_apart past [] second = refl
+reported_apart past (command ∷ first) second = reported_apart (reported_after past command) first second
+
 module _ (kind : Kind) (replicas : ℕ) (log : List MonitorEntry) where
+  -- a longer beginning of the log reports more
+  pub longer_reports : (i j : ℕ) → i ≤ j → (later : Records)
+      × ((reported_in kind replicas (take j log)).records ≡ later ++ (reported_in kind replicas (take i log)).records)
+  longer_reports i j less =
+      let whole = take j log in
+      let (records, is) = form kind replicas [] (commands_of (take i whole)) in
+      let (later, further) = grows kind replicas records (commands_of (drop i whole)) in
+      let split : reported_in kind replicas whole
+      ≡ reported_after_all (reported_in kind replicas (take i whole)) (commands_of (drop i whole)) =
+      ap (reported_in kind replicas) (sym (take-append-drop i whole))
+      ∙ ap (reported_after_all (empty_history kind replicas)) (commands_apart (take i whole) (drop i whole))
+      ∙ reported_apart (empty_history kind replicas) (commands_of (take i whole)) (commands_of (drop i whole)) in
+      let start : reported_in kind replicas (take i whole) ≡ reported_in kind replicas (take i log) =
+      ap (reported_in kind replicas) (take-take i j log less) in (
+        later,
+        ap (λ (h : History). h.records)
+            (split ∙ ap (λ h. reported_after_all h (commands_of (drop i whole))) is)
+            ∙ further ∙ ap (λ r. later ++ r) (ap (λ (h : History). h.records) (sym is ∙ start)),
+      )
+
   pub reported_more : (at : ℕ) (entry : MonitorEntry) → at < length log
       → reported_in kind replicas (take (at + 1) log)
       ≡ reported_after (reported_in kind replicas (take at log)) (get_or log at entry).command

@@ -55,7 +55,7 @@ module _ (kind : Kind) (replicas : ℕ) where
   kept_or_more (Some why) records command = ([], refl)
 
   -- what is reported only grows
-  grows : (records : Records) (commands : List Command) → (later : Records)
+  pub grows : (records : Records) (commands : List Command) → (later : Records)
       × ((reported_after_all (past_of records) commands).records ≡ later ++ records)
   grows records [] = ([], refl)
   grows records (command ∷ commands) =
@@ -64,6 +64,15 @@ module _ (kind : Kind) (replicas : ℕ) where
         later ++ first,
         ap (λ h. (reported_after_all h commands).records) is ∙ further ∙ sym (append_assoc later first records),
       )
+
+  -- a reported history is one of these replicas and of this kind
+  pub form : (records : Records) (commands : List Command) → (all : Records)
+      × (reported_after_all (past_of records) commands ≡ past_of all)
+  form records [] = (records, refl)
+  form records (command ∷ commands) =
+      let (first, is) = kept_or_more (refusal_of kind replicas records command) records command in
+      let (all, further) = form (first ++ records) commands in
+      (all, ap (λ h. reported_after_all h commands) is ∙ further)
 
   pub all_reported : (records : Records) (commands : List Command)
       → fault_of kind (records_after_all kind replicas records commands) ≡ None

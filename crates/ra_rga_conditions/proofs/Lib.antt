@@ -9,4 +9,5 @@ pub mod SortedLists
 pub mod Explaining
 pub mod ExplainedReads
 pub mod PlainConditions
+pub mod EarlierRecords
 pub mod TheoremIndex

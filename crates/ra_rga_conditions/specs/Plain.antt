@@ -15,6 +15,10 @@ pub record AreInserted (records : Records) : Type 0 where
   pub root_stays : (n : ℕ) → ¬ HasOperationAt records n (op.RgaRemove 0)
   pub needed : (n x : ℕ) → Needs records n x → ¬ (x ≡ 0) → (m : ℕ) × Inserts records m x
 
+-- holds if each element that a label needs is inserted, or is the root
+abbrev pub HasWhatItNeeds : Records → Type 0
+HasWhatItNeeds records = (n x : ℕ) → Needs records n x → ¬ (x ≡ 0) → (m : ℕ) × Inserts records m x
+
 -- holds if label n is a read that could be right after the updates that it sees, in some order of them
 pub record IsPossibleRead (records : Records) (n : ℕ) (list : List ℕ) : Type 0 where
   -- what a visible label needs is inserted by a visible one

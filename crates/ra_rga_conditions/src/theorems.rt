@@ -1,5 +1,5 @@
 //! Theorems about the orders that explain an RGA, each the clause of a function with an empty body.
-ghost use Rattle.std.specs.Prelude.{◌≡◌, ◌↔◌, ℕ, List, Contains};
+ghost use Rattle.std.specs.Prelude.{◌≡◌, ◌↔◌, ◌++◌, ℕ, List, Contains};
 ghost use Rattle.ra_labels.specs.declared.kind.Kind.TheVariants.{Rga};
 ghost use Rattle.ra_labels.specs.Edges.{IsBefore};
 ghost use Rattle.ra_labels.specs.Records.{Records};
@@ -10,7 +10,7 @@ ghost use Rattle.ra_precedence.specs.Conditions.{Condition, IsStuck};
 ghost use Rattle.ra_some_order.specs.SomeOrder.{SomeOrderExplains, EachLabelIsOfKind, update_order};
 ghost use Rattle.ra_some_order.specs.UpdateConditions.{IsOrderOfUpdates};
 ghost use Rattle.ra_rga_conditions.specs.Precedence.{Inserts, MustStandBefore};
-ghost use Rattle.ra_rga_conditions.specs.Plain.{MeetsPlainConditions};
+ghost use Rattle.ra_rga_conditions.specs.Plain.{HasWhatItNeeds, MeetsPlainConditions};
 
 /// Theorem: if a sequence linearizes the records, even by visibility alone, its updates keep the precedence of the
 /// records, and no two labels insert one element.
@@ -36,6 +36,13 @@ pub fn stuck_set_is_final()
         → ((condition : Condition) (b : ℕ) → Contains conditions condition → Contains condition.before b
         → (c : ℕ) × Contains condition.after c × MustStandBefore records b c)
         → IsStuck conditions set → NoneLinearizes Rga records }
+{}
+
+/// Theorem: if no sequence linearizes the records, not even by visibility alone, none linearizes later ones, unless an
+/// element that a label needs is inserted only there.
+pub fn no_order_persists()
+    ensures { (later records : Records) → EachLabelIsOfKind Rga (later ++ records) → HasWhatItNeeds records
+        → NoneLinearizes Rga records → NoneLinearizes Rga (later ++ records) }
 {}
 
 /// Theorem: if all labels are of the kind, the plain conditions hold and an order of the updates keeps the precedence,

@@ -1,8 +1,7 @@
 -- Lemmas on what the conditions of all labels lead to.
-use Rattle.std.proofs.Common.{◌≡◌, ℕ, Bool, true, false, List, [], ◌∷◌, ◌++◌, Option, Some, None, length, get_or, refl, sym, ap, subst, ◌∙◌, inl, inr, arith}
+use Rattle.std.proofs.Common.{◌≡◌, ℕ, true, false, List, [], ◌∷◌, ◌++◌, Option, Some, None, length, get_or, refl, sym, ap, subst, ◌∙◌, inl, inr, arith}
 use Rattle.std.specs.Prelude.{filter, Contains, slice_get, option_and_then}
 use Rattle.std.specs.Option.{option_map_or}
-use Rattle.std.proofs.lemmas.Bool.{cases_Bool, false≢true, cond-true, cond-false}
 use Rattle.std.proofs.lemmas.Option.{none-some}
 use Rattle.std.proofs.lemmas.List.Elements.{Contains-get_or}
 use Rattle.ra_labels.specs.declared.kind.Kind.TheVariants.{Rga}
@@ -11,15 +10,14 @@ use Rattle.ra_labels.specs.declared.operation.Op.TheVariants as op
 use Rattle.ra_labels.specs.Edges.{IsBefore}
 use Rattle.ra_labels.specs.Records.{Records, label_count}
 use Rattle.ra_labels.specs.Visibility.{is_update, is_update_at}
-use Rattle.ra_labels.proofs.Members.{head_or_behind, at_head, none_there, kept-there}
+use Rattle.ra_labels.proofs.Members.{head_or_behind, at_head, none_there}
 use Rattle.ra_list_order.proofs.Cycles.{new_from_once}
-use Rattle.ra_theorems.proofs.TheoremIndex.{sees_earlier_updates-updates}
 use Rattle.ra_precedence.specs.Conditions.{Condition, no_condition, condition_at, MeetsAll, HasEachBelow, NameOnlyBelow}
 use Rattle.ra_some_order.specs.SomeOrder.{EachLabelIsOfKind}
-use Rattle.ra_some_order.proofs.LabelOrders.{order_in}
-use Rattle.ra_some_order.proofs.LabelSequences.{updates_at as label_updates}
-use Rattle.ra_rga_conditions.specs.Precedence.{HasOperationAt, Inserts, Needs, MustStandBefore, Seen, Needed, Read}
+use Rattle.ra_some_order.proofs.LabelOrders.{order_in, before_filtered}
+use Rattle.ra_rga_conditions.specs.Precedence.{Inserts, Needs, MustStandBefore, Seen, Needed, Read}
 use Rattle.ra_rga_conditions.specs.Plain.{MeetsPlainConditions}
+use Rattle.ra_rga_conditions.proofs.EarlierRecords.{precedes_updates}
 use Rattle.ra_rga_conditions.proofs.TheoremIndex.{order_explains}
 use Rattle.ra_rga_precedence.specs.Operations.{element_needed}
 use Rattle.ra_rga_precedence.specs.Needing.{IsNeeded, AreNeeded}
@@ -147,42 +145,6 @@ module _ (records : Records) (operations : List Op) (listed : AreListed records 
     }
 
 -- ---- an order that meets the conditions
-kept_before : (test : ℕ → Bool) (xs : List ℕ) (a b : ℕ) → test a ≡ true → test b ≡ true → IsBefore xs a b
-    → IsBefore (filter test xs) a b
-kept_before test [] a b first second before = absurd before
-kept_before test (x ∷ xs) a b first second before = elim (cases_Bool (test x)) [
-  | inl passes ↦ subst (λ ys. IsBefore ys a b) (sym (cond-true (test x) (x ∷ filter test xs) (filter test xs) passes))
-      (elim before [
-        | inl here ↦ inl (here.0, kept-there test xs b here.1 second)
-        | inr further ↦ inr (kept_before test xs a b first second further)
-      ])
-  | inr fails ↦ subst (λ ys. IsBefore ys a b) (sym (cond-false (test x) (x ∷ filter test xs) (filter test xs) fails))
-      (elim before [
-        | inl here ↦ absurd (false≢true (sym fails ∙ ap test here.0 ∙ first))
-        | inr further ↦ kept_before test xs a b first second further
-      ])
-]
-
-operation_updates : (records : Records) (n : ℕ) (operation : Op) → HasOperationAt records n operation
-    → is_update operation ≡ true → is_update_at records n ≡ true
-operation_updates records n operation (label, there, numbered, is) updates =
-    ap (is_update_at records) (sym numbered) ∙ label_updates records label there ∙ ap is_update is ∙ updates
-
-inserts_updates : (records : Records) (n x : ℕ) → Inserts records n x → is_update_at records n ≡ true
-inserts_updates records n x (a, has) = operation_updates records n (op.After a x) has refl
-
-needs_updates : (records : Records) (n x : ℕ) → Needs records n x → is_update_at records n ≡ true
-needs_updates records n x (inl (y, has)) = operation_updates records n (op.After x y) has refl
-needs_updates records n x (inr has) = operation_updates records n (op.RgaRemove x) has refl
-
-precedes_updates : (records : Records) (m n : ℕ) → MustStandBefore records m n
-    → (is_update_at records m ≡ true) × (is_update_at records n ≡ true)
-precedes_updates records m n (Seen updates seen) = (sees_earlier_updates-updates records n m seen, updates)
-precedes_updates records m n (Needed x inserts needs) =
-    (inserts_updates records m x inserts, needs_updates records n x needs)
-precedes_updates records m n (Read its) =
-    (inserts_updates records m its.right its.inserts_right, inserts_updates records n its.left its.inserts_left)
-
 pub order_explaining : (records : Records) → EachLabelIsOfKind Rga records → MeetsPlainConditions records
     → (conditions : List Condition) → AreEnough records conditions → (order : List ℕ)
     → HasEachBelow (label_count records) order → MeetsAll order conditions → Explains records order
@@ -191,5 +153,5 @@ order_explaining records of_kind plain conditions enough order each meets = (
   order_explains records (filter (is_update_at records) order) of_kind plain (order_in records order each)
       (λ m n first.
       let (m_updates, n_updates) = precedes_updates records m n first in
-      kept_before (is_update_at records) order m n m_updates n_updates (enough order each meets m n first)),
+      before_filtered (is_update_at records) order m n m_updates n_updates (enough order each meets m n first)),
 )

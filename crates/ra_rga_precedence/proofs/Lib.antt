@@ -16,4 +16,5 @@ pub mod ReadFaults
 pub mod ReadDemands
 pub mod ReadSteps
 pub mod Reasons
+pub mod CompleteCounts
 pub mod Conclusions

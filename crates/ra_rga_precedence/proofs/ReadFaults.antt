@@ -25,7 +25,7 @@ use Rattle.ra_rga_precedence.proofs.ConditionLists.{AreListed}
 use Rattle.ra_rga_precedence.proofs.Translations.{listed_inserts, listed_needs}
 use Rattle.ra_rga_precedence.proofs.InsertedElements.{inserter_is}
 use Rattle.ra_rga_precedence.proofs.Places.{place_of}
-use Rattle.ra_rga_precedence.proofs.ListPlaces.{new_from, split_pair, once_by}
+use Rattle.ra_rga_precedence.proofs.ListPlaces.{split_pair, once_by}
 use Rattle.ra_rga_precedence.proofs.SeenUpdates.{after_of, same_element, no_root, needed_label, seen_there, inserted_seen, removed_seen, seen_below, up_from}
 
 some_there : (o : Option ℕ) → is_some o ≡ true → (x : ℕ) × (o ≡ Some x)

@@ -2,6 +2,7 @@ pub mod Situation
 pub mod Operations
 pub mod Inserting
 pub mod Needing
+pub mod Complete
 pub mod UpdateConditions
 pub mod Ranks
 pub mod Relations

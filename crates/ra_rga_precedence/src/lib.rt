@@ -8,6 +8,7 @@
 #![tactic(auto)]
 
 mod answer;
+mod complete;
 mod demands;
 mod inserters;
 mod insertions;
@@ -22,4 +23,5 @@ mod relations;
 mod update_conditions;
 
 pub use answer::{AnyOrder, Refutation};
+pub use complete::complete_counts;
 pub use ordering::{Demands, demands_of, some_order};

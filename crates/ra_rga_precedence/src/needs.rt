@@ -57,8 +57,8 @@ pub fn needed_labels(
     Ok(Needs::Each(labels))
 }
 
-// Returns what the label needs.
-fn need_of(operations: &[&Op], inserters: &BTreeMap<u32, u32>, label: u32) -> Need
+/// Returns what the label needs.
+pub fn need_of(operations: &[&Op], inserters: &BTreeMap<u32, u32>, label: u32) -> Need
     ensures { IsNeed (operations_in operations.now) (get nat_cmp inserters.now) label result }
 {
     match element_needed(operations, label) {

@@ -125,7 +125,7 @@ names_below records = record {
 }
 
 -- ---- the updates in an order of all labels
-before_filtered : (p : ℕ → Bool) (xs : List ℕ) (a b : ℕ) → p a ≡ true → p b ≡ true → IsBefore xs a b
+pub before_filtered : (p : ℕ → Bool) (xs : List ℕ) (a b : ℕ) → p a ≡ true → p b ≡ true → IsBefore xs a b
     → IsBefore (filter p xs) a b
 before_filtered p [] a b first second before = absurd before
 before_filtered p (x ∷ xs) a b first second before = elim before [

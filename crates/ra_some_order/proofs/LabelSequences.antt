@@ -1,6 +1,6 @@
 -- Lemmas on orders of all labels of a register or an LWW set: the sequence of their parts, and the order that a
 -- linearization leads to.
-use Rattle.std.proofs.Common.{◌≡◌, ◌↔◌, ℕ, ◌<◌, Bool, true, false, cond, List, [], ◌∷◌, ◌++◌, filter, Some, refl, sym, ap, ◌∙◌, subst, inl, inr, arith}
+use Rattle.std.proofs.Common.{◌≡◌, ◌↔◌, ℕ, ◌<◌, Bool, true, false, cond, List, [], ◌∷◌, ◌++◌, filter, refl, sym, ap, ◌∙◌, subst, inl, inr, arith}
 use Rattle.std.specs.Prelude.{◌==◌, is_some, map, flat_map, Contains, IsPermutation}
 use Rattle.std.specs.List.{AllByRecursion}
 use Rattle.std.specs.Option.{option_map_or}
@@ -14,7 +14,7 @@ use Rattle.ra_labels.specs.declared.operation.Op.TheVariants as op
 use Rattle.ra_labels.specs.declared.label.Label.{Label}
 use Rattle.ra_labels.specs.declared.command.Command.TheVariants.{Operate, Deliver, Join, Verdict}
 use Rattle.ra_labels.specs.Edges.{EachOnce, IsBefore}
-use Rattle.ra_labels.specs.Records.{Records, label_count, labels_of, label_at}
+use Rattle.ra_labels.specs.Records.{Records, label_count, labels_of}
 use Rattle.ra_labels.specs.Visibility.{is_update, is_update_at, sees}
 use Rattle.ra_labels.specs.Places.{issuer_of}
 use Rattle.ra_labels.specs.Rewriting.{Half, Part, Act, acts_of, part_of, parts_of, update_of}
@@ -22,7 +22,7 @@ use Rattle.ra_labels.specs.Linearization.{parts_in, extends_visibility, is_visib
 use Rattle.ra_labels.specs.Answer.{kind_of}
 use Rattle.ra_labels.specs.TheoremTerms.{StandsBefore}
 use Rattle.ra_labels.proofs.Counted.{numbers_below_count}
-use Rattle.ra_labels.proofs.Members.{everyone, at_head, behind_head, kept-there, there-kept, piece_of, reached, from_where}
+use Rattle.ra_labels.proofs.Members.{everyone, at_head, behind_head, there-kept, piece_of, reached, from_where}
 use Rattle.ra_list_order.proofs.Adds.{once_moved}
 use Rattle.ra_list_order.proofs.Befores.{before_across}
 use Rattle.ra_list_order.proofs.Cycles.{AreNew}

@@ -18,8 +18,9 @@ pub mod Explanations
 pub mod NewLabels
 pub mod AppendedUpdates
 pub mod LabelOrders
-pub mod LaterRecords
+pub mod AcceptedKinds
 pub mod FewerConditions
+pub mod EarlierRecords
 pub mod KeptExplanations
 pub mod LabelSequences
 pub mod NarrowedConditions

@@ -1,16 +1,14 @@
 -- Lemmas on a condition that names fewer labels of a read: later ones of the same replicas.
-use Rattle.std.proofs.Common.{◌≡◌, ◌↔◌, ℕ, ◌<◌, ◌≤◌, Bool, true, false, List, [], ◌∷◌, ◌++◌, refl, sym, ap, ◌∙◌, subst, inl, inr, arith}
-use Rattle.std.specs.Prelude.{◌⊎◌, ◌==◌, Option, Contains, if◌then◌else◌}
-use Rattle.std.proofs.lemmas.Bool.{false≢true, not-true, cases_eq, cond_both, eqb-true}
+use Rattle.std.proofs.Common.{◌≡◌, ◌↔◌, ℕ, ◌<◌, Bool, true, false, List, [], ◌∷◌, ◌++◌, refl, sym, ap, ◌∙◌, subst, inl, inr, arith}
+use Rattle.std.specs.Prelude.{◌⊎◌, Option, Contains}
+use Rattle.std.proofs.lemmas.Bool.{false≢true, not-true, cases_eq, cond_both}
 use Rattle.std.proofs.lemmas.List.Elements.{Contains-append_left, Contains-append_right, Contains-append_cases}
 use Rattle.ra_labels.specs.declared.operation.Op.{Op}
 use Rattle.ra_labels.specs.declared.operation.Op.TheVariants as op
 use Rattle.ra_labels.specs.declared.label.Label.{Label}
 use Rattle.ra_labels.specs.Lists.{is_among}
 use Rattle.ra_labels.specs.Edges.{EachOnce, IsBefore}
-use Rattle.ra_labels.specs.Records.{Records, label_count, labels_of}
-use Rattle.ra_labels.specs.Visibility.{sees}
-use Rattle.ra_labels.specs.Places.{issuer_of}
+use Rattle.ra_labels.specs.Records.{Records, label_count}
 use Rattle.ra_labels.proofs.Members.{head_or_behind, at_head, none_there, from_where}
 use Rattle.ra_list_order.proofs.Befores.{before_across}
 use Rattle.ra_theorems.proofs.TheoremIndex.{label_at_each_number-one}

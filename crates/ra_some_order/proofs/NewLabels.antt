@@ -10,6 +10,7 @@ use Rattle.ra_labels.specs.Visibility.{is_update, sees}
 use Rattle.ra_labels.specs.HistorySoFar.{NextOperation, operate, label_of}
 use Rattle.ra_labels.proofs.Counted.{numbers_below_count}
 use Rattle.ra_labels.proofs.Members.{head_or_behind, at_head, behind_head}
+use Rattle.ra_theorems.proofs.LabelNumbers.{label_count-append}
 use Rattle.ra_theorems.proofs.TheoremIndex.{sees_persists, sees_earlier_updates-updates, delivered_are_updates-there}
 use Rattle.ra_precedence.specs.Conditions.{Condition}
 use Rattle.ra_some_order.specs.VisibleUpdates.{visible_labels}
@@ -29,13 +30,13 @@ mapped_same f g [] same = refl
 mapped_same f g (x ∷ xs) same =
     (λ i. same x (at_head x xs x refl) i ++ mapped_same f g xs (λ y there. same y (behind_head x xs y there)) i)
 
-label_below : (records : Records) (label : Label) → Contains (labels_of records) label
+pub label_below : (records : Records) (label : Label) → Contains (labels_of records) label
     → label.number < label_count records
 label_below records label there =
     All-contains (λ (l : Label). l.number < label_count records) (labels_of records) label
     (numbers_below_count records) there
 
-seen_below : (records : Records) (n m : ℕ) → sees records n m ≡ true → m < label_count records
+pub seen_below : (records : Records) (n m : ℕ) → sees records n m ≡ true → m < label_count records
 seen_below records n m seen =
     delivered_are_updates-there records m (sees_earlier_updates-updates records n m seen)
 
@@ -106,6 +107,17 @@ pub conditions-join : (records : Records) (joined from : ℕ) → conditions_of
 conditions-join records joined from = refl
 
 -- ---- later records
+pub visible_stays : (later records : Records) (n : ℕ) → n < label_count records
+    → visible_labels (later ++ records) n ≡ visible_labels records n
+visible_stays [] records n below = refl
+visible_stays (Operate by op clock ∷ later) records n below =
+    let grows = label_count-append later records in
+    visible_after (record { by = by; op = op; clock = clock }) (later ++ records) n (omega (arith, below, grows))
+    ∙ visible_stays later records n below
+visible_stays (Deliver to m ∷ later) records n below = visible_stays later records n below
+visible_stays (Join joined from ∷ later) records n below = visible_stays later records n below
+visible_stays (Verdict ∷ later) records n below = visible_stays later records n below
+
 pub conditions_stay : (later records : Records) (condition : Condition) → Contains (conditions_of records) condition
     → Contains (conditions_of (later ++ records)) condition
 conditions_stay [] records condition there = there

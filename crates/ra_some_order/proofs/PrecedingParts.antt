@@ -1,8 +1,7 @@
 -- Lemmas on the cases in which a part must precede another one.
-use Rattle.std.proofs.Common.{◌≡◌, ℕ, ◌<◌, true, inl, inr}
+use Rattle.std.proofs.Common.{◌≡◌, ◌<◌, true, inl, inr}
 use Rattle.std.specs.Prelude.{◌==◌, nat_lt, ◌||◌, is_some}
 use Rattle.std.proofs.lemmas.Bool.{and_parts, and_from, or_cases, or_left, or_right, eqb-true, eq-eqb, ltb-true, lt-ltb}
-use Rattle.ra_labels.specs.declared.label.Label.{Label}
 use Rattle.ra_labels.specs.Records.{Records}
 use Rattle.ra_labels.specs.Visibility.{sees}
 use Rattle.ra_labels.specs.Rewriting.{Part, update_of}

@@ -1,10 +1,10 @@
 -- Lemmas on the sequence that an order of the updates leads to: the updates in this order, and each query before the
 -- first part that it must precede.
-use Rattle.std.proofs.Common.{◌≡◌, ℕ, ◌<◌, Bool, true, false, List, [], ◌∷◌, ◌++◌, filter, refl, sym, ap, ◌∙◌, subst, inl, inr, arith}
-use Rattle.std.specs.Prelude.{◌==◌, nat_lt, ◌||◌, not, is_some, map, Contains, IsPermutation}
+use Rattle.std.proofs.Common.{◌≡◌, ℕ, Bool, true, false, List, [], ◌∷◌, ◌++◌, filter, refl, sym, ap, ◌∙◌, subst, inl, inr, arith}
+use Rattle.std.specs.Prelude.{not, is_some, map, Contains, IsPermutation}
 use Rattle.std.specs.List.{list_all}
 use Rattle.std.specs.Option.{option_map_or}
-use Rattle.std.proofs.lemmas.Bool.{false≢true, and_parts, and_from, or_cases, or_left, or_right, not-true, not_from_false, false_from_ne_true, eqb-true, eq-eqb, ltb-true, lt-ltb}
+use Rattle.std.proofs.lemmas.Bool.{false≢true, and_from, not-true, not_from_false, false_from_ne_true}
 use Rattle.std.proofs.lemmas.List.Elements.{Contains-append_cases}
 use Rattle.std.proofs.lemmas.List.Sorted.{IsPermutation-refl, IsPermutation-trans, IsPermutation-sym, IsPermutation-append_left, IsPermutation-append_comm, IsPermutation-filter_both, Contains-permutation}
 use Rattle.ra_labels.specs.declared.label.Label.{Label}
@@ -12,7 +12,7 @@ use Rattle.ra_labels.specs.Edges.{EachOnce, IsBefore}
 use Rattle.ra_labels.specs.Records.{Records}
 use Rattle.ra_labels.specs.Visibility.{is_update, sees}
 use Rattle.ra_labels.specs.Rewriting.{Part, update_of}
-use Rattle.ra_labels.specs.Linearization.{extends_visibility, parts_in, is_visible_to, is_earlier_at_replica, is_query_half_of, are_halves, must_precede, extends}
+use Rattle.ra_labels.specs.Linearization.{extends_visibility, parts_in, must_precede, extends}
 use Rattle.ra_labels.proofs.InLists.{list_all-from_contains}
 use Rattle.ra_labels.proofs.Members.{at_head, behind_head, reached, there-kept}
 use Rattle.ra_list_order.proofs.Befores.{second_there}
@@ -27,7 +27,7 @@ use Rattle.ra_some_order.proofs.Selections.{AreOrdered, in_order_of_keys}
 use Rattle.ra_some_order.proofs.Insertions.{LeadsOn, insert_all, all_same, all_extend, all_kept, all_pass}
 use Rattle.ra_some_order.proofs.OwnUpdates.{seen_after}
 use Rattle.ra_some_order.proofs.PartKinds.{IsFittingPart, fitting_part}
-use Rattle.ra_some_order.proofs.PrecedingParts.{MustPrecede, Seen, Earlier, Halves, must_cases, seen_must, earlier_must}
+use Rattle.ra_some_order.proofs.PrecedingParts.{Seen, Earlier, Halves, must_cases, seen_must, earlier_must}
 
 -- ---- a list whose keys are in an order extends each order that the keys respect
 module _ {A : Type 0} (key : A → ℕ) (precedes : A → A → Bool) where

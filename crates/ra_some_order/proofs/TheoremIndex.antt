@@ -5,9 +5,9 @@ pub use Rattle.ra_some_order.proofs.Linearizations.{updates_extended as lineariz
 pub use Rattle.ra_some_order.proofs.SequencedQueries.{sequenced as queries_fit_each_order}
 pub use Rattle.ra_some_order.proofs.Linearizations.{conditions_met as linearization_meets_conditions-conditions}
 pub use Rattle.ra_some_order.proofs.Linearizations.{plain_final as stuck_set_is_final-plain, stuck_final as stuck_set_is_final-stuck, following_final as stuck_set_is_final-following}
-pub use Rattle.ra_some_order.proofs.LaterRecords.{plain_lasts as stuck_set_persists-plain, stuck_lasts as stuck_set_persists-stuck}
+pub use Rattle.ra_some_order.proofs.EarlierRecords.{none_later as no_order_persists}
 pub use Rattle.ra_some_order.proofs.Explanations.{explaining_sequence as order_explains, some_order_exactly as some_order_iff}
-pub use Rattle.ra_some_order.proofs.LaterRecords.{formed_of_kind as accepted_labels_of_kind-formed, accepted_of_kind as accepted_labels_of_kind-accepted}
+pub use Rattle.ra_some_order.proofs.AcceptedKinds.{formed_of_kind as accepted_labels_of_kind-formed, accepted_of_kind as accepted_labels_of_kind-accepted}
 pub use Rattle.ra_some_order.proofs.LabelOrders.{names_before as conditions_name_updates-before, names_after as conditions_name_updates-after, names_below as conditions_name_updates-below}
 pub use Rattle.ra_some_order.proofs.LabelOrders.{order_in as updates_of_label_order-order, met_in as updates_of_label_order-conditions}
 pub use Rattle.ra_some_order.proofs.NewLabels.{conditions-new as conditions_after_command-label, plain-new as conditions_after_command-plain}

@@ -54,12 +54,10 @@ pub fn stuck_set_is_final()
         → IsStuck conditions set → NoneLinearizes kind records }
 {}
 
-/// Theorem: nor does any sequence linearize later records.
-pub fn stuck_set_persists()
-    ensures plain { (kind : Kind) (later records : Records) → is_decided_by_conditions kind ≡ true
-        → ¬ MeetsPlainConditions records → NoneLinearizes kind (later ++ records) }
-    ensures stuck { (kind : Kind) (later records : Records) (set : List ℕ) → is_decided_by_conditions kind ≡ true
-        → IsStuck (conditions_of records) set → NoneLinearizes kind (later ++ records) }
+/// Theorem: if no sequence linearizes the records, not even by visibility alone, none linearizes later ones.
+pub fn no_order_persists()
+    ensures { (kind : Kind) (later records : Records) → is_decided_by_conditions kind ≡ true
+        → EachLabelIsOfKind kind records → NoneLinearizes kind records → NoneLinearizes kind (later ++ records) }
 {}
 
 /// Theorem: of any kind, queries fit into each order of the updates that extends visibility: some sequence has each

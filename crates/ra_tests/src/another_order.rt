@@ -1,7 +1,7 @@
 //! Tests of `ra_another_order`: what another order explains of a log, before and after a violation.
 
 use crate::commands::{bare, elements_of, got, is_told, reporter_of, stamped};
-use ra_another_order::{Answer, Reason, another_order};
+use ra_another_order::{Answer, Reason, another_order, explained_labels};
 use ra_labels::{Cause, Command, Kind, NoMemory, Op, Reply};
 use ra_monitor::Reporter;
 use std::alloc::Global;
@@ -17,7 +17,11 @@ fn read(replica: u8, value: u32) -> Command {
 }
 
 fn insert(replica: u8, element: u32, clock: u32) -> Command {
-    stamped(replica, Op::After { anchor: 0, element }, clock)
+    insert_behind(replica, 0, element, clock)
+}
+
+fn insert_behind(replica: u8, anchor: u32, element: u32, clock: u32) -> Command {
+    stamped(replica, Op::After { anchor, element }, clock)
 }
 
 fn listed(rt: &impl Abort, alloc: Global, replica: u8, list: &[u32]) -> Command {
@@ -30,6 +34,20 @@ fn answer_to(alloc: Global, kind: Kind, told: &Reporter) -> Result<Option<Answer
     match another_order(alloc, kind, 2, log) {
         Ok(answer) => Ok(answer),
         Err(_) => another_order(alloc, kind, 2, log),
+    }
+}
+
+// How many first labels of the log some order explains, from a second call if an allocation fails in the first one.
+fn explained(
+    alloc: Global,
+    kind: Kind,
+    told: &Reporter,
+    likely: u32,
+) -> Result<Option<u32>, NoMemory> {
+    let log = told.monitor().log();
+    match explained_labels(alloc, kind, 2, log, likely) {
+        Ok(count) => Ok(count),
+        Err(_) => explained_labels(alloc, kind, 2, log, likely),
     }
 }
 
@@ -76,6 +94,7 @@ fn another_order_explains_all(rt: HostRuntime) -> Result<(), Fail> {
     assert_eq!(rt; order.len(), 4);
     assert_eq!(rt; order[0], 0);
     assert_eq!(rt; order[1], 1);
+    assert_eq!(rt; explained(alloc, Kind::Register, &told, 1)?, Some(4));
     Ok(())
 }
 
@@ -92,6 +111,25 @@ fn a_later_read_is_explained_by_none(rt: HostRuntime) -> Result<(), Fail> {
             assert!(rt; set.as_slice() == [0, 1].as_slice());
         }
         _ => panic!(rt; "no set is stuck"),
+    }
+    assert_eq!(rt; explained(alloc, Kind::Register, &told, 1)?, Some(3));
+    Ok(())
+}
+
+// Another order explains the labels for some time beyond the violation, wherever the search begins.
+#[test]
+fn the_last_explained_label_is_found(rt: HostRuntime) -> Result<(), Fail> {
+    let alloc = rt.alloc();
+    let mut told = clock_goes_back(&rt, alloc);
+    is_told(&rt, &mut told, got(0, 1), BACK);
+    for _ in 0..20 {
+        is_told(&rt, &mut told, read(1, 9), BACK);
+    }
+    for _ in 0..30 {
+        is_told(&rt, &mut told, read(0, 7), BACK);
+    }
+    for likely in [0, 1, 21, 22, 23, 1_000].iter() {
+        assert_eq!(rt; explained(alloc, Kind::Register, &told, *likely)?, Some(22));
     }
     Ok(())
 }
@@ -112,6 +150,7 @@ fn an_rga_has_another_order(rt: HostRuntime) -> Result<(), Fail> {
     is_told(&rt, &mut told, listed(&rt, alloc, 0, &[1, 2]), violation);
     let order = order_in(&rt, answer_to(alloc, Kind::Rga, &told)?);
     assert_eq!(rt; order.len(), 3);
+    assert_eq!(rt; explained(alloc, Kind::Rga, &told, 2)?, Some(3));
     is_told(&rt, &mut told, listed(&rt, alloc, 1, &[2, 1]), violation);
     match reason_in(&rt, answer_to(alloc, Kind::Rga, &told)?) {
         Reason::Rga(ra_rga_precedence::Refutation::Stuck(set)) => {
@@ -122,11 +161,32 @@ fn an_rga_has_another_order(rt: HostRuntime) -> Result<(), Fail> {
     Ok(())
 }
 
+// An insertion behind an element is explained once the element is inserted, and never if it is not.
+#[test]
+fn an_anchor_comes_later(rt: HostRuntime) -> Result<(), Fail> {
+    let alloc = rt.alloc();
+    let violation = Reply::No {
+        label: 1,
+        cause: Cause::Update,
+    };
+    let mut told = reporter_of(&rt, alloc, Kind::Rga, 2, 100);
+    is_told(&rt, &mut told, insert(0, 1, 1), Reply::Ok(0));
+    is_told(&rt, &mut told, insert_behind(0, 5, 2, 2), violation);
+    assert_eq!(rt; explained(alloc, Kind::Rga, &told, 1)?, Some(1));
+    is_told(&rt, &mut told, insert(1, 5, 3), violation);
+    assert_eq!(rt; explained(alloc, Kind::Rga, &told, 1)?, Some(3));
+    is_told(&rt, &mut told, insert_behind(1, 9, 4, 4), violation);
+    is_told(&rt, &mut told, insert(1, 8, 5), violation);
+    assert_eq!(rt; explained(alloc, Kind::Rga, &told, 1)?, Some(3));
+    Ok(())
+}
+
 // A violation of a counter is final already.
 #[test]
 fn a_counter_has_no_other_order(rt: HostRuntime) -> Result<(), Fail> {
     let alloc = rt.alloc();
     let told = reporter_of(&rt, alloc, Kind::Counter, 2, 100);
     assert!(rt; answer_to(alloc, Kind::Counter, &told)?.is_none());
+    assert!(rt; explained(alloc, Kind::Counter, &told, 0)?.is_none());
     Ok(())
 }

@@ -1,4 +1,4 @@
-use Rattle.ra_some_order.proofs.LaterRecords.{formed_of_kind, accepted_of_kind}
+use Rattle.ra_some_order.proofs.AcceptedKinds.{formed_of_kind, accepted_of_kind}
 use Rattle.ra_some_order.proofs.theorems.accepted_labels_of_kind.Goals as goal
 
 pub returns-clause-formed : goal.returns-clause-formed

@@ -1,0 +1,45 @@
+-- How many of the first labels that a log reports some order explains.
+use Rattle.std.specs.Prelude.{◌≡◌, ◌<◌, ◌≤◌, ◌+◌, ◌-◌, ◌==◌, ℕ, Bool, true, false, List, length, get_or, take, if◌then◌else◌}
+use Rattle.ra_labels.specs.declared.kind.Kind.{Kind}
+use Rattle.ra_labels.specs.Records.{Records, label_count}
+use Rattle.ra_theorems.specs.AnyOrder.{NoneLinearizes}
+use Rattle.ra_some_order.specs.SomeOrder.{SomeOrderExplains}
+use Rattle.ra_monitor.specs.Monitor.{MonitorEntry}
+use Rattle.ra_reported.specs.Reported.{reported_in}
+
+-- the records that the first k entries of a log report
+abbrev pub records_at : Kind → ℕ → List MonitorEntry → ℕ → Records
+records_at kind replicas log k = (reported_in kind replicas (take k log)).records
+
+-- holds if some order explains the first labels, this many, and no sequence linearizes more of them
+pub record IsExtent (kind : Kind) (replicas : ℕ) (log : List MonitorEntry) (count : ℕ) : Type 0 where
+  pub some : (k : ℕ) × (label_count (records_at kind replicas log k) ≡ count)
+      × SomeOrderExplains kind (records_at kind replicas log k)
+  pub none : (k : ℕ) → count < label_count (records_at kind replicas log k)
+      → NoneLinearizes kind (records_at kind replicas log k)
+
+-- holds if some order explains the records; or if no sequence linearizes them
+abbrev pub IsExplained : Kind → Records → Bool → Type 0
+IsExplained kind records true = SomeOrderExplains kind records
+IsExplained kind records false = NoneLinearizes kind records
+
+-- how many entries of a log report the first labels, this many, if these are the places of the labels
+abbrev pub end_in : List ℕ → ℕ → ℕ
+end_in places count = if count == 0 then 0 else get_or places (count - 1) 0 + 1
+
+-- holds if these are the ends of the numbers of first labels, one by one
+pub record AreEnds (places counts ends : List ℕ) : Type 0 where
+  pub len : length ends ≡ length counts
+  pub each : (i : ℕ) → i < length ends → get_or ends i 0 ≡ end_in places (get_or counts i 0)
+
+-- holds if the ends are in the log, and some order explains the labels up to the first one
+pub record CanBeSearched (kind : Kind) (replicas : ℕ) (log : List MonitorEntry) (ends : List ℕ) : Type 0 where
+  pub within : (i : ℕ) → i < length ends → get_or ends i 0 ≤ length log
+  pub some : 0 < length ends
+  pub start : SomeOrderExplains kind (records_at kind replicas log (get_or ends 0 0))
+
+-- holds if some order explains the labels up to this end, and none those up to the next one
+pub record IsLastExplained (kind : Kind) (replicas : ℕ) (log : List MonitorEntry) (ends : List ℕ) (i : ℕ) : Type 0 where
+  pub within : i < length ends
+  pub some : SomeOrderExplains kind (records_at kind replicas log (get_or ends i 0))
+  pub none : i + 1 < length ends → NoneLinearizes kind (records_at kind replicas log (get_or ends (i + 1) 0))
