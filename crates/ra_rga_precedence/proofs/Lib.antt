@@ -12,6 +12,8 @@ pub mod TreeWays
 pub mod NeighborLists
 pub mod SeenUpdates
 pub mod ListPlaces
+pub mod TakenUpdates
+pub mod ListedViews
 pub mod ReadFaults
 pub mod ReadDemands
 pub mod ReadSteps

@@ -1,64 +1,16 @@
 -- Lemmas on marks of labels, one label after another.
-use Rattle.std.proofs.Common.{◌≡◌, ℕ, ◌+◌, ◌<◌, Bool, true, false, List, [], ◌∷◌, ◌++◌, Option, Some, None, length, get_or, set, replicate, refl, sym, ap, subst, ◌∙◌, inl, inr, arith}
-use Rattle.std.specs.Prelude.{◌&&◌, not, slice_get, Contains, IfSome}
-use Rattle.std.specs.Option.{option_map_or}
-use Rattle.std.proofs.lemmas.Bool.{cases_eq, cases_lt, cases_Bool, false≢true, and_parts, and_from, cond-true, cond-false, not-true, not_from_false}
+use Rattle.std.proofs.Common.{◌≡◌, ℕ, ◌<◌, Bool, true, false, List, [], ◌∷◌, ◌++◌, Option, Some, None, length, get_or, set, refl, sym, ap, subst, ◌∙◌, inl, inr, arith}
+use Rattle.std.specs.Prelude.{◌&&◌, not, Contains}
+use Rattle.std.proofs.lemmas.Bool.{cases_eq, cases_Bool, false≢true, and_parts, and_from, cond-true, cond-false, not-true, not_from_false}
 use Rattle.std.proofs.lemmas.Option.{none-some, same_Some}
-use Rattle.std.proofs.lemmas.List.{get_or-set_same, get_or-set_other, get_or-replicate, get_or_past, get_or_append_left, length-append, length-replicate}
+use Rattle.std.proofs.lemmas.List.{get_or-set_same, get_or-set_other, get_or_append_left, length-append, length-set}
 use Rattle.std.proofs.lemmas.List.Elements.{Contains-push, Contains-push_cases, Contains-append_left}
 use Rattle.std.proofs.Math.Seq.{get_or-append_seam}
-use Rattle.ra_labels.specs.declared.operation.Op.{Op}
 use Rattle.ra_labels.specs.TheoremTerms.{HasNoDuplicates}
 use Rattle.ra_labels.proofs.Members.{at_head, behind_head, none_there}
 use Rattle.ra_visibility.specs.Seen.{Seen, is_in}
-use Rattle.ra_rga_precedence.specs.Marks.{is_removal, removed_at, AreMarks, shown_label, AreShown, IsWrong}
-use Rattle.ra_rga_precedence.specs.UpdateConditions.{AreBelow}
+use Rattle.ra_rga_precedence.specs.Marks.{AreUnmarked, shown_label, AreShown, IsWrong}
 use Rattle.ra_rga_precedence.proofs.Places.{place_of}
-
-pub no_marks : (count k : ℕ) → get_or (replicate count false) k false ≡ false
-no_marks count k = elim (cases_lt k count) [
-  | inl less ↦ get_or-replicate count k false false less
-  | inr more ↦ get_or_past (replicate count false) k false
-      (let long = length-replicate count false in omega (arith, more, long))
-]
-
-pub marks_none : (removed : ℕ → Option ℕ) (count : ℕ) → AreMarks 0 removed (replicate count false)
-marks_none removed count = record {
-  marked = λ m k below is. absurd (omega (arith, below));
-  only = λ k is. absurd (false≢true (sym (no_marks count k) ∙ is));
-}
-
-pub mark_more : (removed : ℕ → Option ℕ) (n k : ℕ) (marks : List Bool) → AreMarks n removed marks → removed n ≡ Some k
-    → k < length marks → AreMarks (n + 1) removed (set marks k true)
-mark_more removed n k marks are here within = record {
-  marked =
-      λ m j below is. elim (cases_eq j k) [
-        | inl same ↦ ap (λ i. get_or (set marks k true) i false) same ∙ get_or-set_same marks k true false within
-        | inr other ↦ elim (cases_eq m n) [
-          | inl this ↦ absurd (other (same_Some j k (sym is ∙ ap removed this ∙ here)))
-          | inr older ↦
-              get_or-set_other marks k j true false other ∙ are.marked m j (omega (arith, below, older)) is
-        ]
-      ];
-  only =
-      λ j is. elim (cases_eq j k) [
-        | inl same ↦ (n, omega arith, here ∙ ap Some (sym same))
-        | inr other ↦
-            let (m, below, its) = are.only j (sym (get_or-set_other marks k j true false other) ∙ is) in
-            (m, omega (arith, below), its)
-      ];
-}
-
-pub mark_same : (removed : ℕ → Option ℕ) (n : ℕ) (marks : List Bool) → AreMarks n removed marks → removed n ≡ None
-    → AreMarks (n + 1) removed marks
-mark_same removed n marks are none = record {
-  marked =
-      λ m k below is. elim (cases_eq m n) [
-        | inl this ↦ absurd (none-some k (sym none ∙ ap removed (sym this) ∙ is))
-        | inr older ↦ are.marked m k (omega (arith, below, older)) is
-      ];
-  only = λ k is. let (m, below, its) = are.only k is in (m, omega (arith, below), its);
-}
 
 -- ---- the labels of a list
 pub pushed_once : (xs : List ℕ) (x : ℕ) → HasNoDuplicates xs → ¬ Contains xs x → HasNoDuplicates (xs ++ x ∷ [])
@@ -186,13 +138,24 @@ shown_none inserter seen marks list = record {
   only = λ k marked. inl marked;
 }
 
--- what a label removes is inserted by a label below the count
-pub removed_below : (operations : List Op) (needed : List (Option ℕ)) (seen : Seen) (count : ℕ) → AreBelow count needed
-    → (n k : ℕ) → removed_at operations needed seen n ≡ Some k → k < count
-removed_below operations needed seen count below n k is =
-    let test = is_in seen n && option_map_or is_removal (slice_get operations n) false in
-    elim (cases_Bool test) [
-      | inl removes ↦
-          subst (λ o. IfSome o (λ m. m < count)) (sym (cond-true test (get_or needed n None) None removes) ∙ is) (below n)
-      | inr other ↦ absurd (none-some k (sym (cond-false test (get_or needed n None) None other) ∙ is))
-    ]
+-- ---- marks that are removed
+pub unmark_more : (old : List Bool) (labels : List ℕ) (marks : List Bool) (k : ℕ) → k < length marks
+    → AreUnmarked old labels marks → AreUnmarked old (labels ++ k ∷ []) (set marks k false)
+unmark_more old labels marks k within are = record {
+  len = length-set marks k false ∙ are.len;
+  gone =
+      λ j there. elim (cases_eq j k) [
+        | inl same ↦ ap (λ i. get_or (set marks k false) i false) same ∙ get_or-set_same marks k false false within
+        | inr other ↦ elim (Contains-push_cases labels k j there) [
+          | inl older ↦ get_or-set_other marks k j false false other ∙ are.gone j older
+          | inr same ↦ absurd (other (sym same))
+        ]
+      ];
+  kept =
+      λ j free. elim (cases_eq j k) [
+        | inl same ↦ absurd (free (subst (Contains (labels ++ k ∷ [])) (sym same) (Contains-push labels k)))
+        | inr other ↦
+            get_or-set_other marks k j false false other
+            ∙ are.kept j (λ there. free (Contains-append_left labels (k ∷ []) j there))
+      ];
+}

@@ -7,6 +7,7 @@ pub mod UpdateConditions
 pub mod Ranks
 pub mod Relations
 pub mod Marks
+pub mod Views
 pub mod Neighbors
 pub mod Reads
 pub mod Answers

@@ -1,5 +1,5 @@
 -- What a read sees and lists, by marks of labels.
-use Rattle.std.specs.Prelude.{◌≡◌, ◌<◌, ◌⊎◌, ◌&&◌, not, ℕ, Bool, true, false, List, length, get_or, Contains, Option, Some, None, is_some, slice_get, option_and_then, if◌then◌else◌}
+use Rattle.std.specs.Prelude.{◌≡◌, ◌<◌, ◌⊎◌, ◌&&◌, not, ℕ, Bool, true, false, List, length, get_or, set, Contains, Option, Some, None, is_some, slice_get, option_and_then, if◌then◌else◌}
 use Rattle.std.specs.Option.{option_map_or}
 use Rattle.ra_labels.specs.declared.operation.Op.{Op}
 use Rattle.ra_labels.specs.declared.operation.Op.TheVariants as op
@@ -18,10 +18,19 @@ abbrev pub is_removal : Op → Bool
 is_removal (op.RgaRemove x) = true
 is_removal _ = false
 
--- the label that inserts what label m removes, if m is visible and a removal
+-- the label that inserts what label m removes, if m is a removal; below, if it is also visible
+abbrev pub removal_at : List Op → List (Option ℕ) → ℕ → Option ℕ
+removal_at operations needed m =
+    if option_map_or is_removal (slice_get operations m) false then get_or needed m None else None
+
 abbrev pub removed_at : List Op → List (Option ℕ) → Seen → ℕ → Option ℕ
 removed_at operations needed seen m =
     if is_in seen m && option_map_or is_removal (slice_get operations m) false then get_or needed m None else None
+
+-- the marks with that of the label, if there is one
+abbrev pub with_mark : List Bool → Option ℕ → List Bool
+with_mark marks None = marks
+with_mark marks (Some k) = set marks k true
 
 -- holds if those labels are marked that the labels below a number remove
 pub record AreMarks (bound : ℕ) (removed : ℕ → Option ℕ) (marks : List Bool) : Type 0 where
@@ -56,6 +65,12 @@ abbrev pub IsListing : (ℕ → Option ℕ) → Seen → List Bool → List ℕ 
 IsListing inserter seen marks list now (Labels labels) =
     (length labels.items ≡ length list) × AreShown inserter seen marks list labels.items now
 IsListing inserter seen marks list now (Wrong x) = IsWrong inserter seen marks list x
+
+-- holds if the marks of the labels were removed, and no others
+pub record AreUnmarked (old : List Bool) (labels : List ℕ) (new : List Bool) : Type 0 where
+  pub len : length new ≡ length old
+  pub gone : (k : ℕ) → Contains labels k → get_or new k false ≡ false
+  pub kept : (k : ℕ) → ¬ Contains labels k → get_or new k false ≡ get_or old k false
 
 -- `true` if the label is a visible insertion and not marked
 abbrev pub is_unlisted : List Op → Seen → List Bool → ℕ → Bool

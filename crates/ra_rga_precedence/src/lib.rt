@@ -21,6 +21,7 @@ mod ranks;
 mod reads;
 mod relations;
 mod update_conditions;
+mod view;
 
 pub use answer::{AnyOrder, Refutation};
 pub use complete::complete_counts;

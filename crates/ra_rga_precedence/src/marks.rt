@@ -1,13 +1,10 @@
-//! What a read sees and lists, by marks of labels.
-ghost use Rattle.std.specs.Prelude.{◌≡◌, ◌<◌, ℕ, true, false, length, Some, IfOk, MatchOption};
+//! What a read lists, by marks of labels.
+ghost use Rattle.std.specs.Prelude.{◌≡◌, ◌<◌, ℕ, true, false, length, get_or, Contains, Some, IfOk, MatchOption};
 ghost use Rattle.std.specs.Ordering.{nat_cmp};
 ghost use Rattle.std.specs.BTreeMap.{get};
-ghost use Rattle.ra_rga_precedence.specs.Situation.{operations_in};
-ghost use Rattle.ra_rga_precedence.specs.Marks.{lacks_need, removed_at, AreMarks, shown_label, IsListing, is_unlisted};
-ghost use Rattle.ra_rga_precedence.specs.UpdateConditions.{AreBelow};
+ghost use Rattle.ra_rga_precedence.specs.Marks.{lacks_need, shown_label, IsListing, AreUnmarked};
 
-use crate::operations::{element_inserted, operation_at};
-use ra_labels::{NoMemory, Op};
+use ra_labels::NoMemory;
 use ra_visibility::Seen;
 use std::alloc::Global;
 use std::collections::BTreeMap;
@@ -21,26 +18,8 @@ pub enum Listing {
     Wrong(u32),
 }
 
-/// Returns a visible label, below the count, whose need is not visible, if there is one.
-///
-/// # Complexity
-///
-/// O(n), where `n` is the count.
-pub fn open_label(needed: &[Option<u32>], seen: &Seen<'_>, count: u32) -> Option<u32>
-    requires { length needed.now ≡ count }
-    ensures { MatchOption result ((m : ℕ) → m < count → lacks_need needed.now seen.now m ≡ false)
-        (λ m. (m < count) × (lacks_need needed.now seen.now m ≡ true)) }
-{
-    for label in 0..count {
-        if lacks_need(needed, seen, label) {
-            return Some(label);
-        }
-    }
-    None
-}
-
-// Returns `true` if the label is visible, and the one that inserts what it needs is not.
-fn lacks_need(needed: &[Option<u32>], seen: &Seen<'_>, label: u32) -> bool
+/// Returns `true` if the label is visible, and the one that inserts what it needs is not.
+pub fn lacks_need(needed: &[Option<u32>], seen: &Seen<'_>, label: u32) -> bool
     requires { label < length needed.now }
     ensures { result ≡ lacks_need needed.now seen.now label }
 {
@@ -50,57 +29,6 @@ fn lacks_need(needed: &[Option<u32>], seen: &Seen<'_>, label: u32) -> bool
     match needed[label as usize] {
         Some(inserter) => !seen.has(inserter),
         None => false,
-    }
-}
-
-/// Returns marks of the labels whose elements a visible label removes.
-///
-/// # Errors
-///
-/// `NoMemory` if allocation fails.
-///
-/// # Complexity
-///
-/// O(n), where `n` is the count.
-pub fn removed_labels(
-    alloc: Global,
-    operations: &[&Op],
-    needed: &[Option<u32>],
-    seen: &Seen<'_>,
-    count: u32,
-) -> Result<Vec<bool>, NoMemory>
-    requires len { length needed.now ≡ count }
-    requires below { AreBelow count needed.now }
-    ensures len { IfOk result (λ marks. length marks.items ≡ count) }
-    ensures are { IfOk result (λ marks.
-        AreMarks count (removed_at (operations_in operations.now) needed.now seen.now) marks.items) }
-{
-    let mut marks = Vec::new(alloc);
-    marks.resize(count as usize, false)?;
-    for label in 0..count {
-        if let Some(inserter) = removed_at(operations, needed, seen, label) {
-            marks[inserter as usize] = true;
-        }
-    }
-    Ok(marks)
-}
-
-// Returns the label that inserts what the label removes, if the label is visible and a removal.
-fn removed_at(
-    operations: &[&Op],
-    needed: &[Option<u32>],
-    seen: &Seen<'_>,
-    label: u32,
-) -> Option<u32>
-    requires { label < length needed.now }
-    ensures { result ≡ removed_at (operations_in operations.now) needed.now seen.now label }
-{
-    if !seen.has(label) {
-        return None;
-    }
-    match operation_at(operations, label) {
-        Some(Op::RgaRemove(_)) => needed[label as usize],
-        _ => None,
     }
 }
 
@@ -158,34 +86,34 @@ fn shown_label(
     }
 }
 
-/// Returns a visible insertion that is not marked, if there is one.
+/// Returns one of the labels that is not marked, if there is one.
 ///
 /// # Complexity
 ///
-/// O(n), where `n` is the count.
-pub fn unlisted_label(
-    operations: &[&Op],
-    seen: &Seen<'_>,
-    marks: &[bool],
-    count: u32,
-) -> Option<u32>
-    requires { length marks.now ≡ count }
-    ensures { MatchOption result
-        ((m : ℕ) → m < count → is_unlisted (operations_in operations.now) seen.now marks.now m ≡ false)
-        (λ m. (m < count) × (is_unlisted (operations_in operations.now) seen.now marks.now m ≡ true)) }
+/// O(l), where `l` is the number of labels.
+pub fn unmarked_label(marks: &[bool], labels: &[u32]) -> Option<u32>
+    requires { (m : ℕ) → Contains labels.now m → m < length marks.now }
+    ensures { MatchOption result ((m : ℕ) → Contains labels.now m → get_or marks.now m false ≡ true)
+        (λ m. Contains labels.now m × (get_or marks.now m false ≡ false)) }
 {
-    for label in 0..count {
-        if is_unlisted(operations, seen, marks, label) {
-            return Some(label);
+    for label in labels {
+        if !marks[*label as usize] {
+            return Some(*label);
         }
     }
     None
 }
 
-// Returns `true` if the label is a visible insertion and not marked.
-fn is_unlisted(operations: &[&Op], seen: &Seen<'_>, marks: &[bool], label: u32) -> bool
-    requires { label < length marks.now }
-    ensures { result ≡ is_unlisted (operations_in operations.now) seen.now marks.now label }
+/// Removes the marks of the labels.
+///
+/// # Complexity
+///
+/// O(l), where `l` is the number of labels.
+pub fn unmark(marks: &mut Vec<bool>, labels: &[u32])
+    requires { (m : ℕ) → Contains labels.now m → m < length marks.old.items }
+    ensures { AreUnmarked marks.old.items labels.now marks.new.items }
 {
-    seen.has(label) && element_inserted(operations, label).is_some() && !marks[label as usize]
+    for label in labels {
+        marks[*label as usize] = false;
+    }
 }

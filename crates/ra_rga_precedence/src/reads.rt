@@ -1,16 +1,21 @@
 //! What a read demands of an order, or why no order explains it.
-ghost use Rattle.std.specs.Prelude.{IfOk};
+ghost use Rattle.std.specs.Prelude.{◌≡◌, ◌≤◌, ℕ, None, IfOk};
 ghost use Rattle.std.specs.Ordering.{nat_cmp};
 ghost use Rattle.std.specs.BTreeMap.{get};
+ghost use Rattle.ra_visibility.specs.Seen.{count_in};
+ghost use Rattle.ra_visibility.specs.Tracked.{labels_in};
+ghost use Rattle.ra_visibility.specs.Kept.{issued_count};
 ghost use Rattle.ra_rga_precedence.specs.Situation.{operations_in};
+ghost use Rattle.ra_rga_precedence.specs.Views.{IsView};
 ghost use Rattle.ra_rga_precedence.specs.Reads.{AreInsertions, IsChecked};
 
 use crate::insertions::Insertions;
-use crate::marks::{Listing, listed_labels, open_label, removed_labels, unlisted_label};
+use crate::marks::{Listing, listed_labels, unmark, unmarked_label};
 use crate::neighbors::add_neighbors;
+use crate::view::View;
 use ra_labels::{NoMemory, Op};
 use ra_precedence::Condition;
-use ra_visibility::Seen;
+use ra_visibility::{Seen, Tracker};
 use std::alloc::Global;
 
 /// Why no order explains a read.
@@ -25,7 +30,8 @@ pub enum ReadFault {
     Below(u32, u32),
 }
 
-/// Adds the conditions of a read of the list that sees these updates. Returns why no order explains it, if so.
+/// Adds the conditions of a read of the list that sees these updates, where the view is that of the replica's last read.
+/// Returns why no order explains it, if so; if not, the view is that of this read.
 ///
 /// # Errors
 ///
@@ -33,37 +39,46 @@ pub enum ReadFault {
 ///
 /// # Complexity
 ///
-/// O(n + l · (d + log n)), where `n` is the count, `l` the length of the list and `d` the depth of the tree of
-/// insertions.
+/// O(r + k + l · (d + log n)) for `r` replicas, of `k` updates that the last read does not see and `n` labels. `l` is
+/// the length of both lists, and `d` the depth of the tree of insertions.
 pub fn add_read(
     conditions: &mut Vec<Condition>,
     alloc: Global,
     insertions: &Insertions,
+    tracker: &Tracker,
     operations: &[&Op],
+    view: &mut View,
     seen: &Seen<'_>,
     list: &[u32],
-    count: u32,
 ) -> Result<Option<ReadFault>, NoMemory>
-    requires { AreInsertions (operations_in operations.now) count (get nat_cmp insertions.now.inserters)
-        insertions.now.needed.items insertions.now.ranks.items }
-    ensures { IfOk result (IsChecked (operations_in operations.now) count (get nat_cmp insertions.now.inserters)
-        insertions.now.needed.items seen.now list.now conditions.old.items conditions.new.items) }
+    requires insertions { AreInsertions (operations_in operations.now) (labels_in tracker.now.now)
+        (get nat_cmp insertions.now.inserters) insertions.now.needed.items insertions.now.ranks.items }
+    requires rows { seen.now.rows ≡ tracker.now.now.rows }
+    requires counts { (k : ℕ) → count_in seen.now k ≤ issued_count tracker.now.now k }
+    requires view { IsView tracker.now.now (operations_in operations.now) insertions.now.needed.items view.old }
+    ensures checked { IfOk result (IsChecked (operations_in operations.now) (labels_in tracker.now.now)
+        (get nat_cmp insertions.now.inserters) insertions.now.needed.items seen.now list.now conditions.old.items
+        conditions.new.items) }
+    ensures view { IfOk result (λ fault. fault ≡ None
+        → IsView tracker.now.now (operations_in operations.now) insertions.now.needed.items view.new) }
 {
     let needed = insertions.needed.as_slice();
-    if let Some(label) = open_label(needed, seen, count) {
+    if let Some(label) = view.bring_up(alloc, tracker, operations, needed, seen)? {
         return Ok(Some(ReadFault::Open(label)));
     }
-    let mut marks = removed_labels(alloc, operations, needed, seen, count)?;
-    let labels = match listed_labels(alloc, &insertions.inserters, seen, &mut marks, list)? {
+    let inserters = &insertions.inserters;
+    let labels = match listed_labels(alloc, inserters, seen, &mut view.removed, list)? {
         Listing::Labels(labels) => labels,
         Listing::Wrong(element) => return Ok(Some(ReadFault::Wrong(element))),
     };
-    if let Some(label) = unlisted_label(operations, seen, marks.as_slice(), count) {
+    if let Some(label) = unmarked_label(&view.removed, &view.present) {
         return Ok(Some(ReadFault::Unlisted(label)));
     }
     let ranks = insertions.ranks.as_slice();
-    match add_neighbors(conditions, alloc, needed, ranks, labels.as_slice())? {
-        Some(place) => Ok(Some(ReadFault::Below(list[place], list[place + 1]))),
-        None => Ok(None),
+    if let Some(place) = add_neighbors(conditions, alloc, needed, ranks, &labels)? {
+        return Ok(Some(ReadFault::Below(list[place], list[place + 1])));
     }
+    unmark(&mut view.removed, &labels);
+    view.present = labels;
+    Ok(None)
 }

@@ -14,6 +14,7 @@ pub mod Extensions
 pub mod Precedences
 pub mod NewLabels
 pub mod SeenCounts
+pub mod IssuedUpdates
 pub mod NewestUpdates
 pub mod NewestLists
 pub mod TheoremIndex

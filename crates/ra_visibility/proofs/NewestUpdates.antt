@@ -1,8 +1,8 @@
 -- Lemmas on the newest update of a replica that a label sees: the last one that its count covers.
-use Rattle.std.proofs.Common.{◌≡◌, ℕ, zero, suc, ◌<◌, ◌-◌, true, sym, ap, ◌∙◌, subst, inl, inr, arith, refl}
-use Rattle.std.specs.Prelude.{◌≤◌, ◌&&◌, ◌==◌, nat_lt, IfSome, Option, Some, None, if◌then◌else◌}
+use Rattle.std.proofs.Common.{◌≡◌, ℕ, suc, ◌<◌, ◌-◌, true, sym, ap, ◌∙◌, subst, inl, inr, arith}
+use Rattle.std.specs.Prelude.{◌==◌, nat_lt, IfSome, Some, None}
 use Rattle.std.proofs.lemmas.Bool.{cases_eq, cases_lt, cond-true, cond-false, eq-eqb, ne_eqb, and_parts, and_from, ltb-true, lt-ltb}
-use Rattle.ra_labels.specs.Visibility.{sees, is_update_at}
+use Rattle.ra_labels.specs.Visibility.{sees}
 use Rattle.ra_labels.specs.Places.{issuer_of}
 use Rattle.ra_labels.specs.HistorySoFar.{History}
 use Rattle.ra_theorems.proofs.TheoremIndex.{sees_earlier_updates-updates, delivered_are_updates-there}

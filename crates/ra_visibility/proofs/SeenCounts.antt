@@ -1,6 +1,6 @@
 -- Lemmas on the counts of what a label sees: none exceeds the number of updates that its replica issued.
-use Rattle.std.proofs.Common.{◌≡◌, ℕ, ◌<◌, length, get_or, refl, sym, ap, ◌∙◌, subst, inl, inr, arith}
-use Rattle.std.specs.Prelude.{◌≤◌, set, take, drop}
+use Rattle.std.proofs.Common.{◌≡◌, ℕ, ◌<◌, length, ap, inl, inr, arith}
+use Rattle.std.specs.Prelude.{◌≤◌, set, drop}
 use Rattle.std.proofs.lemmas.Bool.{cases_lt}
 use Rattle.std.proofs.lemmas.List.{get_or_past, length-set, length-take}
 use Rattle.ra_labels.specs.Places.{updates_issued}

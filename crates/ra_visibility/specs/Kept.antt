@@ -1,5 +1,5 @@
 -- The representation invariant of a tracker.
-use Rattle.std.specs.Prelude.{◌≡◌, ◌≢◌, ℕ, ◌+◌, ◌*◌, ◌<◌, ◌≤◌, true, Some, length, get_or}
+use Rattle.std.specs.Prelude.{◌≡◌, ◌≢◌, ℕ, ◌+◌, ◌*◌, ◌<◌, ◌≤◌, true, List, Some, length, get_or}
 use Rattle.ra_labels.specs.declared.limits.TheConstants.{MOST_REPLICAS}
 use Rattle.ra_visibility.specs.declared.stored.Stored.{Stored}
 use Rattle.ra_visibility.specs.declared.last_change.LastChange.{LastChange}
@@ -20,6 +20,12 @@ pub record IsUpdateOf (tracked : Tracked) (by at n : ℕ) : Type 0 where
   pub replica : (row_at tracked n).replica ≡ by
   pub update : (row_at tracked n).is_update ≡ true
   pub place : (row_at tracked n).place ≡ at
+
+-- holds if the list has each update of the replica at its position, and nothing else
+pub record AreIssued (tracked : Tracked) (by : ℕ) (issued : List ℕ) : Type 0 where
+  pub len : length issued ≡ issued_count tracked by
+  pub each : (at : ℕ) → at < length issued → IsUpdateOf tracked by at (get_or issued at 0)
+  pub all : (at n : ℕ) → IsUpdateOf tracked by at n → (at < length issued) × (get_or issued at 0 ≡ n)
 
 pub record TrackedKept (tracked : Tracked) : Type 0 where
   -- the bounds within which each number fits its type

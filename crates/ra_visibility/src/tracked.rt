@@ -148,6 +148,14 @@ impl Tracked {
         Some(self.replicas[replica as usize].issued()[count as usize - 1])
     }
 
+    /// Returns the updates of the replica, oldest first.
+    pub fn issued(&self, replica: u8) -> &[u32]
+        requires { replica < replicas_in self.now }
+        ensures { result.now ≡ (replica_at self.now replica).issued }
+    {
+        self.replicas[replica as usize].issued()
+    }
+
     /// Returns the replica that issued the label.
     pub fn issuer(&self, label: u32) -> u8
         requires { label < labels_in self.now }

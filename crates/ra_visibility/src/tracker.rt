@@ -9,7 +9,7 @@ ghost use Rattle.ra_labels.specs.HistorySoFar.{History, empty_history, history_w
 ghost use Rattle.ra_visibility.specs.declared.fault.DeliverFault.TheVariants.{Refused};
 ghost use Rattle.ra_visibility.specs.Seen.{count_in};
 ghost use Rattle.ra_labels.specs.Places.{issuer_of};
-ghost use Rattle.ra_visibility.specs.Kept.{issued_count};
+ghost use Rattle.ra_visibility.specs.Kept.{issued_count, AreIssued};
 ghost use Rattle.ra_visibility.specs.Newest.{IsNewestSeen};
 ghost use Rattle.ra_visibility.specs.Tracked.{replicas_in, labels_in, has_delivered_in, seen_in, refusal_in, IsVisibilityOf};
 
@@ -169,6 +169,21 @@ impl Tracker {
             → result ≡ issuer_of past.records label }
     {
         self.tracked.issuer(label)
+    }
+
+    /// Returns the updates of the replica, oldest first. A label sees the first ones of them, as many as it counts. Does
+    /// not allocate.
+    ///
+    /// # Complexity
+    ///
+    /// O(1).
+    pub fn issued(&self, replica: u8) -> &[u32]
+        // The replica exists.
+        requires { replica < replicas_in self.now.now }
+        // The result has each update of the replica at its position, and nothing else.
+        ensures { AreIssued self.now.now replica result.now }
+    {
+        self.tracked.issued(replica)
     }
 
     /// Returns the newest update of the replica that the label sees, or `None` if it sees none. Does not allocate.

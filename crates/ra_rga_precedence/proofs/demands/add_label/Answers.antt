@@ -1,4 +1,4 @@
-use Rattle.std.proofs.Common.{None, sym, subst}
+use Rattle.std.proofs.Common.{refl, sym, subst}
 use Rattle.std.specs.Prelude.{option_map}
 use Rattle.std.specs.Ordering.{nat_cmp}
 use Rattle.std.specs.BTreeMap.{get}
@@ -22,8 +22,8 @@ returns-in-Some-2-clause-step c = λ past stands.
     subst (IsReason past.records) (sym c.refutation_of.ensures)
     (subst (λ o. IsStep past.records n old new (option_map (refutation_of n) o)) c.in-Some-2.is
     (label_step tracked operations past stands inserter needed ranks c.requires.are n c.requires.label c.vis-seen.result
-    c.vis-seen.ensures.seen c.in-Some.list.now c.in-Some.ensures c.labels-count.result c.labels-count.ensures old new
-    c.in_ok-fault-in-Some.field-0 c.in_ok-fault-in-Some.ensures))
+    c.vis-seen.ensures.seen c.in-Some.list.now c.in-Some.ensures (labels_in tracked) refl old new
+    c.in_ok-fault-in-Some.field-0 c.in_ok-fault-in-Some.ensures.checked))
 
 pub returns-in-None-2-clause-named : goal.returns-in-None-2-clause-named
 returns-in-None-2-clause-named c = λ none named.
@@ -37,9 +37,8 @@ returns-in-None-2-clause-named c = λ none named.
     let list = c.in-Some.list.now in
     let seen = c.vis-seen.result in
     named_edges operations (labels_in tracked) inserter needed ranks c.requires.are seen list old new
-    (subst (λ k. IsChecked operations k inserter needed seen list old new None) c.labels-count.ensures
-    (subst (IsChecked operations c.labels-count.result inserter needed seen list old new) c.in-None-2.is
-    c.in_ok-fault-in-Some.ensures)) named
+    (subst (IsChecked operations (labels_in tracked) inserter needed seen list old new) c.in-None-2.is
+    c.in_ok-fault-in-Some.ensures.checked) named
 
 pub returns-in-None-2-clause-step : goal.returns-in-None-2-clause-step
 returns-in-None-2-clause-step c = λ past stands.
@@ -53,8 +52,8 @@ returns-in-None-2-clause-step c = λ past stands.
     let new = c.add_read.new.conditions.items in
     subst (λ o. IsStep past.records n old new (option_map (refutation_of n) o)) c.in-None-2.is
     (label_step tracked operations past stands inserter needed ranks c.requires.are n c.requires.label c.vis-seen.result
-    c.vis-seen.ensures.seen c.in-Some.list.now c.in-Some.ensures c.labels-count.result c.labels-count.ensures old new
-    c.in_ok-fault-in-Some.field-0 c.in_ok-fault-in-Some.ensures)
+    c.vis-seen.ensures.seen c.in-Some.list.now c.in-Some.ensures (labels_in tracked) refl old new
+    c.in_ok-fault-in-Some.field-0 c.in_ok-fault-in-Some.ensures.checked)
 
 pub returns-in-None-clause-step : goal.returns-in-None-clause-step
 returns-in-None-clause-step c = λ past stands.
