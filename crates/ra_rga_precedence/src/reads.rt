@@ -30,8 +30,8 @@ pub enum ReadFault {
     Below(u32, u32),
 }
 
-/// Adds the conditions of a read of the list that sees these updates, where the view is that of the replica's last read.
-/// Returns why no order explains it, if so; if not, the view is that of this read.
+/// Adds the conditions of a read of the list that sees these updates, where the view is that of the replica's last
+/// read. Returns why no order explains it, if so; if not, the view is that of this read.
 ///
 /// # Errors
 ///

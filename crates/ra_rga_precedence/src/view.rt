@@ -73,7 +73,8 @@ impl View {
         requires rows { seen.now.rows ≡ tracker.now.now.rows }
         requires counts { (k : ℕ) → count_in seen.now k ≤ issued_count tracker.now.now k }
         requires view { IsView tracker.now.now (operations_in operations.now) needed.now self.old }
-        ensures { IfOk result (IsBroughtUp tracker.now.now (operations_in operations.now) needed.now seen.now self.new) }
+        ensures { IfOk result
+            (IsBroughtUp tracker.now.now (operations_in operations.now) needed.now seen.now self.new) }
     {
         if !self.is_behind(seen, tracker.replicas()) {
             *self = View::new(alloc, tracker.replicas(), tracker.labels())?;
@@ -108,7 +109,8 @@ impl View {
         requires counts { (k : ℕ) → count_in seen.now k ≤ issued_count tracker.now.now k }
         requires view { IsView tracker.now.now (operations_in operations.now) needed.now self.old }
         requires behind { IsBehind seen.now self.old }
-        ensures { IfOk result (IsBroughtUp tracker.now.now (operations_in operations.now) needed.now seen.now self.new) }
+        ensures { IfOk result
+            (IsBroughtUp tracker.now.now (operations_in operations.now) needed.now seen.now self.new) }
     {
         for replica in 0..tracker.replicas() {
             if let Some(label) = self.take_of(tracker, operations, needed, seen, replica)? {
@@ -135,7 +137,8 @@ impl View {
         requires wide { replica < length self.old.taken.items }
         requires removed { length self.old.removed.items ≡ length needed.now }
         requires behind { get_or self.old.taken.items replica 0 ≤ count_in seen.now replica }
-        ensures { IfOk result (IsTakenUp tracker.now.now (operations_in operations.now) needed.now seen.now replica self.old self.new) }
+        ensures { IfOk result (IsTakenUp tracker.now.now (operations_in operations.now) needed.now seen.now replica
+            self.old self.new) }
     {
         let issued = tracker.issued(replica);
         for place in self.taken[replica as usize]..seen.count(replica) {

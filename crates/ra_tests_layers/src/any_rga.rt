@@ -256,6 +256,34 @@ fn a_removed_element_is_not_compared(rt: HostRuntime) -> Result<(), Fail> {
     Ok(())
 }
 
+// The reads of one replica see more and more: each lists what is there now, and what is new to it decides.
+#[test]
+fn later_reads_see_more(rt: HostRuntime) -> Result<(), Fail> {
+    let alloc = rt.alloc();
+    let mut events = vec![in alloc;
+        Event::After(0, 0, 1),
+        Event::Read(0, vec![in alloc; 1]?),
+        Event::After(1, 0, 2),
+        Event::Got(1, 0),
+        Event::Read(1, vec![in alloc; 2, 1]?),
+        Event::Remove(1, 1),
+        Event::Read(1, vec![in alloc; 2]?),
+        Event::Got(0, 2),
+        Event::Read(0, vec![in alloc; 2, 1]?),
+        Event::After(0, 1, 3),
+        Event::Got(0, 4),
+        Event::Read(0, vec![in alloc; 2, 3]?),
+    ]?;
+    let found = answer_to(&rt, alloc, 2, &events)?;
+    assert_eq!(rt; among(alloc, found, &[0, 2])?, vec![in alloc; 0, 2]?);
+    events.push(Event::Read(0, vec![in alloc; 2, 1, 3]?))?;
+    assert_eq!(rt; answer_to(&rt, alloc, 2, &events)?, Answer::Wrong(9, 1));
+    events.pop();
+    events.push(Event::Read(0, vec![in alloc; 2]?))?;
+    assert_eq!(rt; answer_to(&rt, alloc, 2, &events)?, Answer::Unlisted(9, 7));
+    Ok(())
+}
+
 // Each reason that no order can change.
 #[test]
 fn reasons_apart_from_the_order(rt: HostRuntime) -> Result<(), Fail> {

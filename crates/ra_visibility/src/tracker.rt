@@ -171,8 +171,8 @@ impl Tracker {
         self.tracked.issuer(label)
     }
 
-    /// Returns the updates of the replica, oldest first. A label sees the first ones of them, as many as it counts. Does
-    /// not allocate.
+    /// Returns the updates of the replica, oldest first. A label sees the first ones of them, as many as it counts.
+    /// Does not allocate.
     ///
     /// # Complexity
     ///
