@@ -21,6 +21,7 @@ class Mutant:
         self.path, self.tier = path, tier
         self.crate, self.name = path.parent.parent.name, path.stem
         self.what, self.killed_by = said_by(path)
+        apply(path)
 
 
 def said_by(path):
@@ -33,6 +34,28 @@ def said_by(path):
         if line.startswith("#"):
             raise SystemExit(f"{path}: line {at} is one more comment")
     return lines[0][len(WHAT):].strip(), lines[1][len(KILLED_BY):].strip()
+
+
+def apply(path):
+    """Fails unless the edit can be applied: `rt` reads each line by itself, and passes over an edit that it cannot apply."""
+    texts, file, old = {}, None, None
+    for at, line in enumerate(path.read_text(encoding="utf-8").splitlines(), 1):
+        word, _, rest = line.partition(":")
+        if word == "file":
+            file = path.parent.parent / rest.strip()
+            if not file.is_file():
+                raise SystemExit(f"{path}: line {at} names no file of the crate")
+            texts.setdefault(file, file.read_text(encoding="utf-8"))
+        elif word == "old" and file:
+            old = rest.removeprefix(" ")
+        elif word == "new" and old:
+            if texts[file].count(old) != 1:
+                raise SystemExit(f"{path}: the text before line {at} is in {file.name} {texts[file].count(old)} times")
+            texts[file], old = texts[file].replace(old, rest.removeprefix(" ")), None
+        elif line and not line.startswith("#"):
+            raise SystemExit(f"{path}: line {at} is no `file:`, no `old:` and no `new:` behind an `old:`")
+    if not texts or old:
+        raise SystemExit(f"{path}: it has no `new:` line behind its last `old:`")
 
 
 def mutants_of(top):
