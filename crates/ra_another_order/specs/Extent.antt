@@ -1,4 +1,4 @@
--- How many of the first labels that a log reports some order explains.
+-- The longest prefix of the labels that a log reports and some order explains.
 use Rattle.std.specs.Prelude.{◌≡◌, ◌<◌, ◌≤◌, ◌+◌, ◌-◌, ◌==◌, ℕ, Bool, true, false, List, length, get_or, take, if◌then◌else◌}
 use Rattle.ra_labels.specs.declared.kind.Kind.{Kind}
 use Rattle.ra_labels.specs.Records.{Records, label_count}
@@ -11,7 +11,7 @@ use Rattle.ra_reported.specs.Reported.{reported_in}
 abbrev pub records_at : Kind → ℕ → List MonitorEntry → ℕ → Records
 records_at kind replicas log k = (reported_in kind replicas (take k log)).records
 
--- holds if some order explains the first labels, this many, and no sequence linearizes more of them
+-- holds if some order explains the prefix of this length, and no sequence linearizes a longer one
 pub record IsExtent (kind : Kind) (replicas : ℕ) (log : List MonitorEntry) (count : ℕ) : Type 0 where
   pub some : (k : ℕ) × (label_count (records_at kind replicas log k) ≡ count)
       × SomeOrderExplains kind (records_at kind replicas log k)
@@ -23,11 +23,11 @@ abbrev pub IsExplained : Kind → Records → Bool → Type 0
 IsExplained kind records true = SomeOrderExplains kind records
 IsExplained kind records false = NoneLinearizes kind records
 
--- how many entries of a log report the first labels, this many, if these are the places of the labels
+-- how many entries of a log report the prefix of this length, if these are the places of the labels
 abbrev pub end_in : List ℕ → ℕ → ℕ
 end_in places count = if count == 0 then 0 else get_or places (count - 1) 0 + 1
 
--- holds if these are the ends of the numbers of first labels, one by one
+-- holds if these are the ends of the prefixes of these lengths, one by one
 pub record AreEnds (places counts ends : List ℕ) : Type 0 where
   pub len : length ends ≡ length counts
   pub each : (i : ℕ) → i < length ends → get_or ends i 0 ≡ end_in places (get_or counts i 0)

@@ -1,12 +1,12 @@
-//! Where first labels end in a log.
+//! Where prefixes of the labels end in a log.
 ghost use Rattle.std.specs.Prelude.{◌≡◌, ◌<◌, ◌≤◌, ◌⊎◌, ℕ, IfOk, length, get_or};
 ghost use Rattle.ra_another_order.specs.Extent.{end_in, AreEnds};
 
 use ra_labels::NoMemory;
 use std::alloc::Global;
 
-/// Returns for each number of first labels how many entries of the log report them: the entries up to the place of the
-/// last one of them.
+/// Returns for each prefix of the labels, given by its length, how many entries of the log report it: the entries up to
+/// the place of its last label.
 ///
 /// # Errors
 ///
@@ -14,11 +14,11 @@ use std::alloc::Global;
 ///
 /// # Complexity
 ///
-/// O(n), where `n` is the number of numbers.
+/// O(n), where `n` is the number of prefixes.
 pub fn ends_of(alloc: Global, places: &[u32], counts: &[u32]) -> Result<Vec<usize>, NoMemory>
-    // Each number is at most that of the places.
+    // No prefix is longer than the list of places.
     requires { (i : ℕ) → i < length counts.now → get_or counts.now i 0 ≤ length places.now }
-    // The ends are those of the numbers, one by one.
+    // The ends are those of the prefixes, one by one.
     ensures { IfOk result (λ ends. AreEnds places.now counts.now ends.items) }
 {
     let mut ends = Vec::new(alloc);

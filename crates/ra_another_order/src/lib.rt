@@ -6,8 +6,8 @@
 //! kind (`ra_any_order`, `ra_rga_precedence`).
 //!
 //! Contract for the crates above: `another_order` returns an order that explains the labels, or a reason by which no
-//! sequence at all is an RA-linearization (`specs/Answers`). `explained_labels` returns how many of the first labels
-//! some order explains (`specs/Extent`).
+//! sequence at all is an RA-linearization (`specs/Answers`). `explained_labels` returns the length of the longest
+//! prefix of the labels that some order explains (`specs/Extent`).
 #![tactic(auto)]
 
 mod answer;

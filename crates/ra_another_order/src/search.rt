@@ -10,8 +10,7 @@ use ra_labels::{Command, Kind, NoMemory, Reply};
 use std::alloc::Global;
 
 /// Returns the number of an end: some order explains the labels that the entries up to it report, and none those up to
-/// the next one, if there is one. The question is asked of the last end first, then of end `likely` and of the one
-/// before.
+/// the next one, if there is one. The question is asked of end `likely` first, then of the one before it or the last.
 ///
 /// # Errors
 ///
@@ -32,7 +31,7 @@ pub fn last_explained(
     requires asked { is_of_any_order kind ≡ false }
     // The ends are in the log, and some order explains the labels up to the first one.
     requires ends { CanBeSearched kind replicas log.now ends.now }
-    // It is the last one of two neighbors that some order explains.
+    // Some order explains the labels up to this end, and none those up to the next one.
     ensures { IfOk result (IsLastExplained kind replicas log.now ends.now) }
 {
     let last = ends.len() - 1;
@@ -55,12 +54,12 @@ fn next_end(explained: usize, unexplained: usize, last: usize, likely: usize) ->
     ensures above { explained < result }
     ensures below { result < unexplained }
 {
-    if explained < last && last < unexplained {
-        last
-    } else if explained < likely && likely < unexplained {
+    if explained < likely && likely < unexplained {
         likely
     } else if explained + 1 < likely && likely <= unexplained {
         likely - 1
+    } else if explained < last && last < unexplained {
+        last
     } else {
         explained + (unexplained - explained) / 2
     }

@@ -20,7 +20,7 @@ pub fn reported_extends_records()
         ≡ later ++ records_after_all kind replicas [] commands) }
 {}
 
-/// Theorem: the records that a longer beginning of a log reports extend those of a shorter one.
+/// Theorem: the records of a longer prefix of a log extend those of a shorter one.
 pub fn longer_log_extends_records()
     ensures { (kind : Kind) (replicas : ℕ) (log : List MonitorEntry) (i j : ℕ) → i ≤ j → (later : Records)
         × ((reported_in kind replicas (take j log)).records

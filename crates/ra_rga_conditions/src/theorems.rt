@@ -38,8 +38,8 @@ pub fn stuck_set_is_final()
         → IsStuck conditions set → NoneLinearizes Rga records }
 {}
 
-/// Theorem: if no sequence linearizes the records, not even by visibility alone, none linearizes later ones, unless an
-/// element that a label needs is inserted only there.
+/// Theorem: if all labels are of the kind, each element that a label of the records needs is inserted among them, and
+/// no sequence linearizes them, not even by visibility alone, then no sequence linearizes later records.
 pub fn no_order_persists()
     ensures { (later records : Records) → EachLabelIsOfKind Rga (later ++ records) → HasWhatItNeeds records
         → NoneLinearizes Rga records → NoneLinearizes Rga (later ++ records) }

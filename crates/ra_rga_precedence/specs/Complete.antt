@@ -1,14 +1,14 @@
--- How many first labels insert all elements that they need.
+-- The prefixes of the labels that insert all elements that they need.
 use Rattle.std.specs.Prelude.{◌≡◌, ◌<◌, ◌≤◌, ℕ, List, length, get_or, Contains, Option, Some}
 use Rattle.ra_labels.specs.declared.operation.Op.{Op}
 use Rattle.ra_rga_precedence.specs.Operations.{inserted_at, needed_at}
 
--- holds if each element that one of the first labels needs is inserted by one of them
+-- holds if each element that a label of the prefix needs is inserted by a label of it
 abbrev pub IsComplete : List Op → ℕ → Type 0
 IsComplete operations count = (n x : ℕ) → n < count → needed_at operations n ≡ Some x
     → (m : ℕ) × (m < count) × (inserted_at operations m ≡ Some x)
 
--- holds if these are all numbers of first labels up to a bound that insert what they need, in ascending order from zero
+-- holds if these are the lengths of all prefixes up to a bound that insert what they need, in ascending order from zero
 pub record AreCompleteCounts (operations : List Op) (bound : ℕ) (counts : List ℕ) : Type 0 where
   pub some : 0 < length counts
   pub start : get_or counts 0 0 ≡ 0

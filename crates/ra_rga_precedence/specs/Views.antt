@@ -29,10 +29,17 @@ pub record HasTaken (tracked : Tracked) (operations : List Op) (needed : List (O
   pub only : (m : ℕ) → Contains view.present.items m → (m < labels_in tracked)
       × (is_in (taken_in tracked view) m ≡ true) × (is_some (inserted_at operations m) ≡ true)
 
--- holds if moreover they have what they need among them
+-- holds if, in addition, whatever the taken updates need is among them
 pub record IsView (tracked : Tracked) (operations : List Op) (needed : List (Option ℕ)) (view : View) : Type 0 where
   pub has : HasTaken tracked operations needed view
   pub closed : (m : ℕ) → is_in (taken_in tracked view) m ≡ true → lacks_need needed (taken_in tracked view) m ≡ false
+
+-- holds if the view has taken what the read sees, and keeps as many insertions as the read lists
+pub record IsViewOfRead (tracked : Tracked) (operations : List Op) (needed : List (Option ℕ)) (seen : Seen)
+    (list : List ℕ) (view : View) : Type 0 where
+  pub is : IsView tracked operations needed view
+  pub taken : (k : ℕ) → get_or view.taken.items k 0 ≡ count_in seen k
+  pub listed : length view.present.items ≡ length list
 
 -- holds if the view has taken no more updates of each replica than there are in the set
 abbrev pub IsBehind : Seen → View → Type 0

@@ -1,4 +1,4 @@
-//! How many first labels insert all elements that they need.
+//! The prefixes of the labels that insert all elements that they need.
 ghost use Rattle.std.specs.Prelude.{IfOk};
 ghost use Rattle.std.specs.Ordering.{nat_cmp};
 ghost use Rattle.std.specs.BTreeMap.{get};
@@ -11,8 +11,8 @@ use ra_labels::{NoMemory, Op};
 use std::alloc::Global;
 use std::collections::BTreeMap;
 
-/// Returns each number of first labels that insert all elements that they need, up to the count, in ascending order. No
-/// order explains another number of first labels: an element that one of them needs is inserted later or never.
+/// Returns the length of each prefix of the labels that inserts all elements that its labels need, up to the count, in
+/// ascending order. No order explains another prefix (`ra_rga_conditions`: `linearization_meets_plain_conditions`).
 ///
 /// # Errors
 ///
@@ -22,7 +22,7 @@ use std::collections::BTreeMap;
 ///
 /// O(n · log n), where `n` is the count.
 pub fn complete_counts(alloc: Global, operations: &[&Op], count: u32) -> Result<Vec<u32>, NoMemory>
-    // The numbers ascend from zero; each is one of first labels that insert what they need, and there is no other one.
+    // The lengths ascend from zero; each is one of a prefix that inserts what it needs, and there is no other one.
     ensures { IfOk result (λ counts. AreCompleteCounts (operations_in operations.now) count counts.items) }
 {
     let inserters = first_inserters(alloc, operations, count)?;

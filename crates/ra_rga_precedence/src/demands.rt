@@ -29,8 +29,8 @@ use std::alloc::Global;
 ///
 /// # Complexity
 ///
-/// O(n · r + l · (d + log n)), where `n` is the number of labels, `r` that of replicas, `l` the length of all lists,
-/// and `d` the depth of the tree of insertions.
+/// O(r · (n + r) + l · (d + log n)), where `n` is the number of labels, `r` that of replicas, `l` the length of all
+/// lists, and `d` the depth of the tree of insertions. The views of the replicas take O(n · r) words.
 pub fn add_reads(
     conditions: &mut Vec<Condition>,
     alloc: Global,

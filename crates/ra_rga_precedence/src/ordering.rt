@@ -75,8 +75,8 @@ pub fn some_order(
 ///
 /// # Complexity
 ///
-/// O(n · (r + log n) + l · (d + log n)) for `n` labels of `r` replicas. `l` is the length of all lists that were read,
-/// and `d` the depth of the tree of insertions.
+/// O(n · (r + log n) + r² + l · (d + log n)) for `n` labels of `r` replicas. `l` is the length of all lists that were
+/// read, and `d` the depth of the tree of insertions.
 pub fn demands_of(alloc: Global, tracker: &Tracker, operations: &[&Op]) -> Result<Demands, NoMemory>
     // The conditions name existing labels.
     ensures named { IfOk result (DemandsName (labels_in tracker.now.now)) }

@@ -6,7 +6,7 @@ ghost use Rattle.ra_visibility.specs.Seen.{count_in};
 ghost use Rattle.ra_visibility.specs.Tracked.{labels_in};
 ghost use Rattle.ra_visibility.specs.Kept.{issued_count};
 ghost use Rattle.ra_rga_precedence.specs.Situation.{operations_in};
-ghost use Rattle.ra_rga_precedence.specs.Views.{IsView};
+ghost use Rattle.ra_rga_precedence.specs.Views.{IsView, IsViewOfRead};
 ghost use Rattle.ra_rga_precedence.specs.Reads.{AreInsertions, IsChecked};
 
 use crate::insertions::Insertions;
@@ -31,7 +31,7 @@ pub enum ReadFault {
 }
 
 /// Adds the conditions of a read of the list that sees these updates, where the view is that of the replica's last
-/// read. Returns why no order explains it, if so; if not, the view is that of this read.
+/// read. Returns the reason if no order explains the read. Otherwise the view becomes that of this read.
 ///
 /// # Errors
 ///
@@ -39,8 +39,8 @@ pub enum ReadFault {
 ///
 /// # Complexity
 ///
-/// O(r + k + l · (d + log n)) for `r` replicas, of `k` updates that the last read does not see and `n` labels. `l` is
-/// the length of both lists, and `d` the depth of the tree of insertions.
+/// O(r + k + l · (d + log n)) for `r` replicas, `n` labels, and `k` updates that the last read does not see. `l` is the
+/// length of this list and the last one, and `d` the depth of the tree of insertions.
 pub fn add_read(
     conditions: &mut Vec<Condition>,
     alloc: Global,
@@ -59,8 +59,8 @@ pub fn add_read(
     ensures checked { IfOk result (IsChecked (operations_in operations.now) (labels_in tracker.now.now)
         (get nat_cmp insertions.now.inserters) insertions.now.needed.items seen.now list.now conditions.old.items
         conditions.new.items) }
-    ensures view { IfOk result (λ fault. fault ≡ None
-        → IsView tracker.now.now (operations_in operations.now) insertions.now.needed.items view.new) }
+    ensures view { IfOk result (λ fault. fault ≡ None → IsViewOfRead tracker.now.now (operations_in operations.now)
+        insertions.now.needed.items seen.now list.now view.new) }
 {
     let needed = insertions.needed.as_slice();
     if let Some(label) = view.bring_up(alloc, tracker, operations, needed, seen)? {

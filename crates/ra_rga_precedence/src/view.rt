@@ -1,4 +1,4 @@
-//! What the reads of one replica see: from read to read only what is new is looked at.
+//! What the reads of one replica see: each read looks only at updates that are new since the last one.
 ghost use Rattle.std.specs.Prelude.{◌≡◌, ◌<◌, ◌≤◌, ℕ, true, length, get_or, IfOk, OnOk};
 ghost use Rattle.ra_visibility.specs.Seen.{count_in};
 ghost use Rattle.ra_visibility.specs.Tracked.{replicas_in, labels_in};
@@ -49,8 +49,8 @@ impl View {
         })
     }
 
-    /// Takes the updates that the read sees and the view has not. Returns one of them that needs what the read does not
-    /// see, if there is one.
+    /// Adds to the view the updates that the read sees and the view lacks. Returns one of them that needs what the read
+    /// does not see, if there is one.
     ///
     /// # Errors
     ///
@@ -58,8 +58,8 @@ impl View {
     ///
     /// # Complexity
     ///
-    /// O(r + k), where `r` is the number of replicas and `k` that of these updates. A view that sees more than the read
-    /// is made anew; a later read of the same replica never sees less.
+    /// O(r + k), where `r` is the number of replicas and `k` that of these updates. O(n + r) if the view has an update
+    /// that the read does not see, since it is then made anew. A later read of the same replica never sees less.
     pub fn bring_up(
         &mut self,
         alloc: Global,
@@ -85,7 +85,8 @@ impl View {
     // Returns `true` if the view has taken no more updates of each replica than the read sees.
     fn is_behind(&self, seen: &Seen<'_>, replicas: u8) -> bool
         requires { length self.now.taken.items ≡ replicas }
-        ensures { result ≡ true → IsBehind seen.now self.now }
+        ensures behind { result ≡ true → IsBehind seen.now self.now }
+        ensures all { IsBehind seen.now self.now → result ≡ true }
     {
         for replica in 0..replicas {
             if self.taken[replica as usize] > seen.count(replica) {
@@ -95,7 +96,7 @@ impl View {
         true
     }
 
-    // Takes the updates that the read sees and the view has not. Returns one that needs what the read does not see.
+    // Adds the updates that the read sees and the view lacks. Returns one that needs what the read does not see.
     fn take_new(
         &mut self,
         tracker: &Tracker,
@@ -120,7 +121,7 @@ impl View {
         Ok(None)
     }
 
-    // Takes those of one replica.
+    // Adds those of one replica.
     fn take_of(
         &mut self,
         tracker: &Tracker,
@@ -152,7 +153,7 @@ impl View {
         Ok(None)
     }
 
-    // Takes what the update inserts or removes.
+    // Adds what the update inserts or removes.
     fn take(
         &mut self,
         operations: &[&Op],

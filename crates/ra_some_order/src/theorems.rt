@@ -54,7 +54,8 @@ pub fn stuck_set_is_final()
         → IsStuck conditions set → NoneLinearizes kind records }
 {}
 
-/// Theorem: if no sequence linearizes the records, not even by visibility alone, none linearizes later ones.
+/// Theorem: if all labels are of the kind and no sequence linearizes the records, not even by visibility alone, no
+/// sequence linearizes later ones.
 pub fn no_order_persists()
     ensures { (kind : Kind) (later records : Records) → is_decided_by_conditions kind ≡ true
         → EachLabelIsOfKind kind records → NoneLinearizes kind records → NoneLinearizes kind (later ++ records) }

@@ -98,7 +98,7 @@ fn another_order_explains_all(rt: HostRuntime) -> Result<(), Fail> {
     Ok(())
 }
 
-// The first read is explained by another order, and the one behind it by none.
+// The first read is explained by another order, and the one after it by none.
 #[test]
 fn a_later_read_is_explained_by_none(rt: HostRuntime) -> Result<(), Fail> {
     let alloc = rt.alloc();
@@ -116,7 +116,7 @@ fn a_later_read_is_explained_by_none(rt: HostRuntime) -> Result<(), Fail> {
     Ok(())
 }
 
-// Another order explains the labels for some time beyond the violation, wherever the search begins.
+// Another order explains some labels beyond the violation; the search finds the last one from any start.
 #[test]
 fn the_last_explained_label_is_found(rt: HostRuntime) -> Result<(), Fail> {
     let alloc = rt.alloc();

@@ -45,7 +45,7 @@ last_explained-requires-clause-ends c =
     ∙ c.in_ok-operations.ensures n
     ∙ ap (λ ps. operation_at log ps n) c.as_slice.ensures.value
     ∙ found.ensures.operations n in
-    subst (CanBeSearched kind c.args.replicas log) (sym c.as_slice-5.ensures.value)
+    subst (CanBeSearched kind c.args.replicas log) (sym c.as_slice-6.ensures.value)
     (searchable kind c.args.replicas log places found.ensures.count found.ensures.places operations listed asked counts
     ends are_counts are_ends)
 
@@ -73,7 +73,7 @@ returns-clause-extent c =
     ∙ c.in_ok-operations.ensures n
     ∙ ap (λ ps. operation_at log ps n) c.as_slice.ensures.value
     ∙ found.ensures.operations n in
-    let last = subst (λ es. IsLastExplained kind c.args.replicas log es c.in_ok-last.last) c.as_slice-5.ensures.value
+    let last = subst (λ es. IsLastExplained kind c.args.replicas log es c.in_ok-last.last) c.as_slice-6.ensures.value
     c.in_ok-last.ensures in
     let within : c.in_ok-last.last < length counts = subst (λ l. c.in_ok-last.last < l) are_ends.len last.within in
     let here = c.index.ensures ∙ get_or_default_zero counts c.in_ok-last.last c.index.result.now within in

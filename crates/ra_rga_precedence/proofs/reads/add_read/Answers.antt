@@ -186,7 +186,8 @@ returns-clause-view c = λ none.
     ap (λ ms. get_or ms m false) (sym c.deref.ensures.value)
     ∙ c.in_default-unmarked_label.ensures m (subst (λ xs. Contains xs m) (sym c.deref-2.ensures.value) there) in
     let unmarked = subst (λ ls. AreUnmarked now ls c.unmark.new.marks.items) c.deref-4.ensures.value c.unmark.ensures in
-    view_of_read tracked operations inserter needed ranks c.requires.insertions seen c.requires.rows view up.0 up.1 list
-    labels now len shown all
+    let is = view_of_read tracked operations inserter needed ranks c.requires.insertions seen c.requires.rows view up.0
+    up.1 list labels now len shown all
     (record { taken = view.taken; removed = c.unmark.new.marks; present = c.in-Labels.labels }) refl refl unmarked
-    c.listed_labels.ensures.len
+    c.listed_labels.ensures.len in
+    record { is = is; taken = up.1; listed = len }
