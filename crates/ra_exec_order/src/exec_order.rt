@@ -7,9 +7,10 @@ ghost use Rattle.ra_visibility.specs.Order.{IsByExecution};
 
 use ra_labels::{Label, NoMemory};
 use ra_visibility::{NamedOrder, Place, Seen};
+use std::alloc::Global;
 use std::marker::Model;
 
-/// Labels in execution order. No call allocates, and each is O(1).
+/// Labels in execution order. Only `numbers` allocates, and every other call is O(1).
 #[derive(Drop)]
 pub struct ExecOrder {
     labels: u32,
@@ -74,6 +75,14 @@ impl NamedOrder for ExecOrder {
         } else {
             None
         }
+    }
+
+    fn numbers(&self, alloc: Global) -> Result<Vec<u32>, NoMemory> {
+        let mut numbers = Vec::new(alloc);
+        for number in 0..self.labels {
+            numbers.push(number)?;
+        }
+        Ok(numbers)
     }
 
     ghost lists = { λ order past stands. first_numbers-listed order past.kind past.records stands.0 stands.1 };

@@ -90,8 +90,7 @@ impl TrackedHistory {
     ///
     /// # Complexity
     ///
-    /// O(n) in execution order and O(n r) in timestamp order, where `n` is the number of labels and `r` the number of
-    /// the order's runs.
+    /// O(n), where `n` is the number of labels.
     pub fn sequence(&self) -> Result<Vec<PartRef>, NoMemory>
         ensures { (past : History) → Represents self.now past → IfOk result (λ parts.
             parts.items ≡ map ref_of (named_sequence past.kind (before_fault past).records)) }

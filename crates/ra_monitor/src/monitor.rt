@@ -227,8 +227,7 @@ impl Monitor {
     ///
     /// # Complexity
     ///
-    /// O(n) for the kinds that do not go by timestamps, and O(n r) for the other kinds, where `n` is the number of
-    /// labels and `r` the number of the order's runs.
+    /// O(n), where `n` is the number of labels.
     pub fn sequence(&self) -> Result<Vec<PartRef>, NoMemory>
         // The result is the named sequence of the labels before the fault, or of all labels if there is none.
         ensures named { IfOk result (λ parts. parts.items

@@ -75,6 +75,13 @@ impl NamedOrder for Order {
         }
     }
 
+    fn numbers(&self, alloc: Global) -> Result<Vec<u32>, NoMemory> {
+        match self {
+            Order::Execution(order) => order.numbers(alloc),
+            Order::Time(order) => order.numbers(alloc),
+        }
+    }
+
     ghost lists = { λ order past stands. lists_named order past stands };
 
     ghost keeps_joined = { λ order past joined from stands room. keeps_joined order past joined from stands room };

@@ -1,5 +1,5 @@
 //! A chunk: a few labels, sorted by rank.
-ghost use Rattle.std.specs.Prelude.{◌≡◌, ℕ, ◌+◌, ◌<◌, ◌≤◌, nat_lt, false, [], length, take, drop, IfOk, OnOk, OnErr, option_map, slice_index_or};
+ghost use Rattle.std.specs.Prelude.{◌≡◌, ℕ, ◌+◌, ◌<◌, ◌≤◌, ◌++◌, nat_lt, false, [], length, map, take, drop, IfOk, OnOk, OnErr, option_map, slice_index_or};
 ghost use Rattle.std.specs.List.{insert, slice_get};
 ghost use Rattle.std.specs.List.Sorted.{IsPartitionedBy};
 ghost use Rattle.ra_time_order.specs.Positions.{no_entry, not_above, IsPositionOf};
@@ -124,5 +124,20 @@ impl Chunk {
             Some(entry) => Some(entry.label),
             None => None,
         }
+    }
+
+    /// Appends the numbers of all labels, sorted by rank.
+    ///
+    /// # Errors
+    ///
+    /// `NoMemory` if allocation fails; some of the numbers may be appended then.
+    pub fn put_numbers(&self, numbers: &mut Vec<u32>) -> Result<(), NoMemory>
+        ensures { OnOk result (numbers.new.items
+            ≡ numbers.old.items ++ map (λ entry. entry.label) self.now.entries) }
+    {
+        for entry in &self.entries {
+            numbers.push(entry.label)?;
+        }
+        Ok(())
     }
 }

@@ -1,5 +1,5 @@
 //! Labels sorted by rank, in runs, so that a late label moves few others.
-ghost use Rattle.std.specs.Prelude.{◌≡◌, ℕ, ◌+◌, ◌<◌, ◌≤◌, true, [], length, get_or, vec_len, IfOk, OnOk, OnErr, option_map};
+ghost use Rattle.std.specs.Prelude.{◌≡◌, ℕ, ◌+◌, ◌<◌, ◌≤◌, true, [], length, get_or, map, vec_len, IfOk, OnOk, OnErr, option_map};
 ghost use Rattle.std.specs.List.{insert, slice_get};
 ghost use Rattle.std.specs.List.Sorted.{IsPartitionedBy};
 ghost use Rattle.ra_labels.specs.NamedOrder.{lowest_rank};
@@ -140,6 +140,25 @@ impl Sorted {
             rest -= run.chunk.len();
         }
         None
+    }
+
+    /// Returns the numbers of all labels, sorted by rank.
+    ///
+    /// # Errors
+    ///
+    /// `NoMemory` if allocation fails.
+    ///
+    /// # Complexity
+    ///
+    /// O(n), where `n` is the number of labels.
+    pub fn numbers(&self, alloc: Global) -> Result<Vec<u32>, NoMemory>
+        ensures { IfOk result (λ numbers. numbers.items ≡ map (λ entry. entry.label) self.now.entries) }
+    {
+        let mut numbers = Vec::new(alloc);
+        for run in &self.runs {
+            run.chunk.put_numbers(&mut numbers)?;
+        }
+        Ok(numbers)
     }
 }
 

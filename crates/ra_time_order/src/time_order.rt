@@ -120,6 +120,10 @@ impl NamedOrder for TimeOrder {
         self.sorted.at(position)
     }
 
+    fn numbers(&self, alloc: Global) -> Result<Vec<u32>, NoMemory> {
+        self.sorted.numbers(alloc)
+    }
+
     ghost lists = { λ order past stands. listed-named order past stands };
 
     ghost keeps_joined = { λ order past joined from stands few. stands_joined order past joined from stands few };

@@ -1,5 +1,5 @@
 //! The interface of the named orders.
-ghost use Rattle.std.specs.Prelude.{◌≡◌, ℕ, ◌+◌, ◌<◌, List, length, OnOk};
+ghost use Rattle.std.specs.Prelude.{◌≡◌, ℕ, ◌+◌, ◌<◌, List, length, OnOk, IfOk};
 ghost use Rattle.std.specs.List.{slice_get};
 ghost use Rattle.ra_labels.specs.declared.command.Command.TheVariants.{Deliver, Join};
 ghost use Rattle.ra_labels.specs.declared.limits.TheConstants.{MOST_REPLICAS};
@@ -9,6 +9,7 @@ ghost use Rattle.ra_visibility.specs.Order.{ComesNext, IsPlaceOf, numbers_in};
 use crate::limits::MOST_LABELS;
 use crate::seen::Seen;
 use ra_labels::{Label, NoMemory};
+use std::alloc::Global;
 
 /// The position of a label in an order, or the position that it would have.
 #[derive(Clone, Copy, Debug, PartialEq, Eq)]
@@ -70,6 +71,19 @@ pub trait NamedOrder: Drop + Send {
     fn at(&self, position: usize) -> Option<u32>
         // The result is the number of the label at the position, or `None` if the position is beyond the end.
         ensures { result ≡ slice_get (listed self.now) position };
+
+    /// Returns the numbers of all labels, in the order.
+    ///
+    /// # Errors
+    ///
+    /// `NoMemory` if allocation fails.
+    ///
+    /// # Complexity
+    ///
+    /// O(n), where `n` is the number of labels.
+    fn numbers(&self, alloc: Global) -> Result<Vec<u32>, NoMemory>
+        // The numbers are those of all labels, in the order.
+        ensures { IfOk result (λ numbers. numbers.items ≡ listed self.now) };
 
     // The list of numbers is the named order of the labels of each history that the order represents.
     ghost lists: { (order : Self) (past : History) → stands_for order past

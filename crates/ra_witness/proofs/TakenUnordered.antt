@@ -1,16 +1,14 @@
 -- Lemmas on what is kept of an object of any type or a multi-value register, as effects of any kind.
-use Rattle.std.proofs.Common.{◌≡◌, ℕ, ◌<◌, ◌≤◌, ◌∷◌, true, false, None, Result, Ok, Err, refl, ap, ◌∙◌, sym, subst, inl, inr, arith}
-use Rattle.std.specs.Prelude.{◌⊎◌, MatchResult, OnOk, OnErr, Contains}
-use Rattle.std.proofs.lemmas.Bool.{false≢true}
+use Rattle.std.proofs.Common.{◌≡◌, ℕ, ◌<◌, ◌≤◌, ◌∷◌, true, None, Result, Ok, Err, ap, ◌∙◌, sym, subst, inl, inr, arith}
+use Rattle.std.specs.Prelude.{MatchResult, OnErr}
 use Rattle.ra_labels.specs.declared.kind.Kind.{Kind}
 use Rattle.ra_labels.specs.declared.kind.Kind.TheVariants as variant
 use Rattle.ra_labels.specs.declared.label.Label.{Label}
-use Rattle.ra_labels.specs.declared.command.Command.TheVariants.{Deliver, Join}
 use Rattle.ra_labels.specs.Records.{label_count, labels_of}
 use Rattle.ra_labels.specs.Answer.{kind_of}
-use Rattle.ra_labels.specs.Explained.{is_explained, unexplained_cause}
+use Rattle.ra_labels.specs.Explained.{is_explained}
 use Rattle.ra_labels.specs.Fault.{sequence_cause}
-use Rattle.ra_labels.specs.HistorySoFar.{History, replicas_of, history_with, NextOperation, operate, label_of}
+use Rattle.ra_labels.specs.HistorySoFar.{History, history_with, NextOperation, operate, label_of}
 use Rattle.ra_labels.proofs.Members.{head_or_behind}
 use Rattle.ra_theorems.specs.OneState.{HasOneState, EachLabelIsOf}
 use Rattle.ra_theorems.proofs.TheoremIndex.{one_state_meets_conditions}

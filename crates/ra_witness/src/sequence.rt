@@ -1,5 +1,5 @@
 //! The named sequence, built from the order of the labels and their halves.
-ghost use Rattle.std.specs.Prelude.{◌≡◌, ◌<◌, ◌++◌, flat_map, vec_len, IfOk, OnOk};
+ghost use Rattle.std.specs.Prelude.{◌≡◌, ◌++◌, flat_map, IfOk, OnOk};
 ghost use Rattle.ra_labels.specs.TheoremTerms.{EachLabelIsWellFormed};
 ghost use Rattle.ra_labels.specs.HistorySoFar.{History};
 ghost use Rattle.ra_witness.specs.Labels.{updates_by_number};
@@ -20,7 +20,7 @@ use std::alloc::Global;
 ///
 /// # Complexity
 ///
-/// O(n) calls of `NamedOrder::at`, where `n` is the number of labels.
+/// O(n) and one call of `NamedOrder::numbers`, where `n` is the number of labels.
 pub fn part_refs<O: NamedOrder>(
     alloc: Global,
     order: &O,
@@ -31,23 +31,17 @@ pub fn part_refs<O: NamedOrder>(
         ≡ flat_map (refs_at (updates_by_number past.records)) (O.listed order.now)) }
 {
     let mut refs = Vec::new(alloc);
-    let mut position = 0;
-    while let Some(number) = order.at(position) {
-        push_parts(&mut refs, kept, number)?;
-        let parts = refs.len();
-        if position < parts {
-            position += 1;
-        }
+    for number in &order.numbers(alloc)? {
+        push_parts(&mut refs, kept, *number)?;
     }
     Ok(refs)
 }
 
 // Appends the label's parts.
 fn push_parts(refs: &mut Vec<PartRef>, kept: &Effects, label: u32) -> Result<(), NoMemory>
-    ensures parts { (past : History) → AreEffectsOf kept.now past
+    ensures { (past : History) → AreEffectsOf kept.now past
         → EachLabelIsWellFormed past.kind past.initial_replicas past.records
         → OnOk result (refs.new.items ≡ refs.old.items ++ refs_at (updates_by_number past.records) label) }
-    ensures longer { OnOk result (vec_len refs.old < vec_len refs.new) }
 {
     if kept.has_halves(label) {
         refs.push(PartRef {

@@ -250,7 +250,7 @@ impl<O: NamedOrder> Witness<O> {
     ///
     /// # Complexity
     ///
-    /// O(n) calls of `NamedOrder::at`, where `n` is the number of labels.
+    /// O(n) and one call of `NamedOrder::numbers`, where `n` is the number of labels.
     pub fn sequence(&self) -> Result<Vec<PartRef>, NoMemory>
         // If the call succeeds, the result is the named sequence of the labels: all their parts, in the named order.
         ensures { (past : History) → IsWitnessOf O.stands_for self.now past
