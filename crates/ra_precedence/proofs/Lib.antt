@@ -13,3 +13,4 @@ pub mod OpenLabels
 pub mod Solutions
 pub mod NamedBelow
 pub mod TheoremIndex
+pub mod HeldLabels

@@ -1,3 +1,4 @@
 pub mod Conditions
 pub mod Placing
 pub mod Solved
+pub mod Reasons

@@ -3,15 +3,18 @@
 //! leaves a choice, as in "one of these writes was the last". Read from the end of the order, these are AND/OR
 //! precedence constraints (Möhring, Skutella and Stork, SIAM J. Comput. 33, 2004).  Contract for the crates above:
 //! `order_of` returns an order that meets all conditions, or a stuck set: labels none of which can be the last one of
-//! them. By the theorem `no_order_meets_stuck` there is no order then.
+//! them. By the theorem `no_order_meets_stuck` there is no order then. `stuck_set` adds reasons that show it.
 #![tactic(auto)]
 
 mod condition;
 mod open;
 mod ordering;
 mod placing;
+mod reasons;
+mod subsets;
 pub mod theorems;
 mod uses;
 
 pub use condition::{Condition, name_only_below};
 pub use ordering::{Solution, order_of};
+pub use reasons::{Held, StuckSet, stuck_set};

@@ -23,7 +23,8 @@ pub enum Solution {
 ///
 /// # Errors
 ///
-/// `NoMemory` if allocation fails, or if a label is in `before` of the conditions 2^32 times.
+/// `NoMemory` if allocation fails, if a label is in `before` of the conditions 2^32 times, or if there are more than
+/// 2^32 conditions.
 ///
 /// # Complexity
 ///

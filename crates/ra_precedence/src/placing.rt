@@ -78,7 +78,7 @@ fn use_label(
     ensures len { length numbers.new.items ≡ length numbers.old.items }
 {
     for index in uses.of(placed[next]) {
-        meet(conditions, *index, met, numbers, placed)?;
+        meet(conditions, *index as usize, met, numbers, placed)?;
     }
     Ok(())
 }

@@ -5,13 +5,15 @@ ghost use Rattle.ra_precedence.specs.Placing.{AreUses, AreAdded};
 
 use crate::condition::Condition;
 use ra_labels::NoMemory;
+use smallvec::SmallVec;
 use std::alloc::Global;
 use std::marker::Model;
 
 /// For each label, the indexes of the conditions that have it in `after`.
 #[derive(Drop)]
 pub struct Uses {
-    lists: Vec<Vec<usize>>,
+    // Usually a label has at most two, which need no allocation.
+    lists: Vec<SmallVec<u32, 2>>,
 }
 
 impl Model for Uses {
@@ -27,7 +29,7 @@ impl Uses {
     ///
     /// # Errors
     ///
-    /// `NoMemory` if allocation fails.
+    /// `NoMemory` if allocation fails, or if there are more than 2^32 conditions.
     ///
     /// # Complexity
     ///
@@ -43,6 +45,9 @@ impl Uses {
     {
         let mut uses = Uses::empty(alloc, count)?;
         for (index, condition) in conditions.iter().enumerate() {
+            let Ok(index) = u32::try_from(index) else {
+                return Err(NoMemory);
+            };
             uses.add_all(condition.after(), index)?;
         }
         Ok(uses)
@@ -55,13 +60,13 @@ impl Uses {
     {
         let mut lists = Vec::new(alloc);
         for _ in 0..count {
-            lists.push(Vec::new(alloc))?;
+            lists.push(SmallVec::new(alloc))?;
         }
         Ok(Uses { lists })
     }
 
     // Adds the index to the list of each of the labels.
-    fn add_all(&mut self, labels: &[u32], index: usize) -> Result<(), NoMemory>
+    fn add_all(&mut self, labels: &[u32], index: u32) -> Result<(), NoMemory>
         requires { (c : ℕ) → Contains labels.now c → c < length self.old }
         ensures len { length self.new ≡ length self.old }
         ensures added { OnOk result (AreAdded labels.now index self.old self.new) }
@@ -73,7 +78,7 @@ impl Uses {
     }
 
     // Appends the index to the list of the label.
-    fn add(&mut self, label: u32, index: usize) -> Result<(), NoMemory>
+    fn add(&mut self, label: u32, index: u32) -> Result<(), NoMemory>
         requires { label < length self.old }
         ensures len { length self.new ≡ length self.old }
         ensures added { OnOk result (get_or self.new label [] ≡ get_or self.old label [] ++ index ∷ []) }
@@ -84,7 +89,7 @@ impl Uses {
     }
 
     /// Returns the indexes of the conditions that have the label in `after`.
-    pub fn of(&self, label: u32) -> &[usize]
+    pub fn of(&self, label: u32) -> &[u32]
         requires { label < length self.now }
         ensures { result.now ≡ get_or self.now label [] }
     {

@@ -17,7 +17,7 @@ returns-clause-added c =
     let same : length (map (λ list. list.items) lists) ≡ length c.args.self.now = ap length c.self.view_is in
     omega (arith, there, same, length-map lists (λ list. list.items)) in
     replaced (λ list. list.items) lists c.args.label c.push.new.self low
-    ∙ c.in_ok-push.ensures.items
+    ∙ c.in_ok-push.ensures.ok
     ∙ ap (λ xs. xs ++ c.args.index ∷ [])
     (ap (λ list. list.items) c.index_mut.ensures.value
     ∙ sym (get_or-map (λ list. list.items) lists c.args.label c.index_mut.result.now [] low)

@@ -25,7 +25,8 @@ loop-index-preserved c =
       uses_are = uses_more c.args.conditions.now c.loop-index.index c.loop-index.uses c.add_all.new.self c.loop-index-test.true
           c.loop-index.invariant.uses_are
           (subst (λ labels. AreAdded labels c.loop-index.index c.loop-index.uses c.add_all.new.self)
-          (c.after.ensures ∙ ap (λ (h : Condition). h.after) is) c.in_ok-add_all.ensures.added);
+          (c.after.ensures ∙ ap (λ (h : Condition). h.after) is)
+          (subst (λ i. AreAdded c.after.result.now i c.loop-index.uses c.add_all.new.self) c.in-Ok.ensures.1 c.in_ok-add_all.ensures.added));
       len = c.in_ok-add_all.ensures.len ∙ c.loop-index.invariant.len;
     }
 
