@@ -1,4 +1,5 @@
 pub mod SequenceOrders
+pub mod LabelOrders
 pub mod ListedReads
 pub mod RgaOperations
 pub mod VisibleParts

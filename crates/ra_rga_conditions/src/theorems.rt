@@ -9,6 +9,7 @@ ghost use Rattle.ra_theorems.specs.AnyOrder.{NoneLinearizes};
 ghost use Rattle.ra_precedence.specs.Conditions.{Condition, IsStuck};
 ghost use Rattle.ra_some_order.specs.SomeOrder.{SomeOrderExplains, EachLabelIsOfKind, update_order};
 ghost use Rattle.ra_some_order.specs.UpdateConditions.{IsOrderOfUpdates};
+ghost use Rattle.ra_some_order.specs.LabelOrders.{IsOrderOfLabels, OrderExplains};
 ghost use Rattle.ra_rga_conditions.specs.Precedence.{Inserts, MustStandBefore};
 ghost use Rattle.ra_rga_conditions.specs.Plain.{HasWhatItNeeds, MeetsPlainConditions};
 
@@ -51,6 +52,15 @@ pub fn order_explains()
     ensures { (records : Records) (order : List ℕ) → EachLabelIsOfKind Rga records → MeetsPlainConditions records
         → IsOrderOfUpdates records order → ((m n : ℕ) → MustStandBefore records m n → IsBefore order m n)
         → (sequence : List Part) × IsRaLinearization Rga records sequence × (update_order sequence ≡ order) }
+{}
+
+/// Theorem: if all labels are of the kind and the plain conditions hold, an order of all labels that keeps the
+/// precedence is that of an RA-linearization. Each label has to come after the updates that it sees and the earlier
+/// labels of its replica.
+pub fn label_order_explains()
+    ensures { (records : Records) (order : List ℕ) → EachLabelIsOfKind Rga records → MeetsPlainConditions records
+        → IsOrderOfLabels records order → ((m n : ℕ) → MustStandBefore records m n → IsBefore order m n)
+        → OrderExplains Rga records order }
 {}
 
 /// Theorem: so some sequence explains the records exactly if the plain conditions hold and some order of the updates

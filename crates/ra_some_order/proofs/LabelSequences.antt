@@ -1,5 +1,5 @@
--- Lemmas on orders of all labels of a register or an LWW set: the sequence of their parts, and the order that a
--- linearization leads to.
+-- Lemmas on orders of all labels of a kind whose labels are single parts: the sequence of their parts, and the order
+-- that a linearization leads to.
 use Rattle.std.proofs.Common.{◌≡◌, ◌↔◌, ℕ, ◌<◌, Bool, true, false, cond, List, [], ◌∷◌, ◌++◌, filter, refl, sym, ap, ◌∙◌, subst, inl, inr, arith}
 use Rattle.std.specs.Prelude.{◌==◌, is_some, map, flat_map, Contains, IsPermutation}
 use Rattle.std.specs.List.{AllByRecursion}
@@ -9,6 +9,7 @@ use Rattle.std.proofs.lemmas.List.{map-append}
 use Rattle.std.proofs.lemmas.List.Elements.{Contains-append_right, All-contains}
 use Rattle.std.proofs.lemmas.List.Sorted.{IsPermutation-sym, IsPermutation-map, Contains-permutation}
 use Rattle.ra_labels.specs.declared.kind.Kind.{Kind}
+use Rattle.ra_labels.specs.declared.kind.Kind.TheVariants.{Register, LwwSet}
 use Rattle.ra_labels.specs.declared.operation.Op.{Op}
 use Rattle.ra_labels.specs.declared.operation.Op.TheVariants as op
 use Rattle.ra_labels.specs.declared.label.Label.{Label}
@@ -31,7 +32,7 @@ use Rattle.ra_theorems.proofs.TheoremIndex.{label_at_each_number-there, label_at
 use Rattle.ra_precedence.specs.Conditions.{MeetsAll, HasEachBelow}
 use Rattle.ra_some_order.specs.UpdateConditions.{conditions_of}
 use Rattle.ra_some_order.specs.PlainConditions.{MeetsPlainConditions}
-use Rattle.ra_some_order.specs.SomeOrder.{EachLabelIsOfKind, is_decided_by_conditions, update_order}
+use Rattle.ra_some_order.specs.SomeOrder.{EachLabelIsOfKind, is_decided_by_conditions, has_whole_labels, update_order}
 use Rattle.ra_some_order.specs.LabelOrders.{IsOrderOfLabels, label_order}
 use Rattle.ra_some_order.proofs.UpdateOrders.{is_update_part, found_there, mapped_cond, order_of_updates}
 use Rattle.ra_some_order.proofs.Selections.{AreOrdered, in_order_of_keys}
@@ -82,36 +83,39 @@ numbers_new (Join joined from ∷ before) = numbers_new before
 numbers_new (Verdict ∷ before) = numbers_new before
 
 -- ---- each label has one part
-one_part : (label : Label) (operation : Op) → is_decided_by_conditions (kind_of operation) ≡ true
+one_part : (label : Label) (operation : Op) → has_whole_labels (kind_of operation) ≡ true
     → map number_of (map (part_of label) (acts_of operation)) ≡ label.number ∷ []
-one_part label (op.Write value) decided = refl
-one_part label (op.Last value) decided = refl
-one_part label (op.LwwAdd x) decided = refl
-one_part label (op.LwwRemove x) decided = refl
-one_part label (op.LwwRead list) decided = refl
-one_part label _ decided = absurd (false≢true decided)
+one_part label (op.OrAdd x id) whole = absurd (false≢true whole)
+one_part label (op.OrRemove x ids) whole = absurd (false≢true whole)
+one_part label (op.OrRead list) whole = absurd (false≢true whole)
+one_part label (op.List operation) whole = absurd (false≢true whole)
+one_part label _ whole = refl
 
 -- which is an update exactly if the operation is one
 abbrev UpdatesIt : Op → Half × Act → Type 0
 UpdatesIt operation act = is_some (update_of act.1) ≡ is_update operation
 
-all_update : (operation : Op) → is_decided_by_conditions (kind_of operation) ≡ true
+all_update : (operation : Op) → has_whole_labels (kind_of operation) ≡ true
     → AllByRecursion (UpdatesIt operation) (acts_of operation)
-all_update (op.Write value) decided = (refl, tt)
-all_update (op.Last value) decided = (refl, tt)
-all_update (op.LwwAdd x) decided = (refl, tt)
-all_update (op.LwwRemove x) decided = (refl, tt)
-all_update (op.LwwRead list) decided = (refl, tt)
-all_update _ decided = absurd (false≢true decided)
+all_update (op.OrAdd x id) whole = absurd (false≢true whole)
+all_update (op.OrRemove x ids) whole = absurd (false≢true whole)
+all_update (op.OrRead list) whole = absurd (false≢true whole)
+all_update (op.List operation) whole = absurd (false≢true whole)
+all_update _ whole = (refl, tt)
 
 numbers_of_parts : (labels : List Label)
-    → ((label : Label) → Contains labels label → is_decided_by_conditions (kind_of label.op) ≡ true)
+    → ((label : Label) → Contains labels label → has_whole_labels (kind_of label.op) ≡ true)
     → map number_of (flat_map parts_of labels) ≡ map (λ label. label.number) labels
-numbers_of_parts [] decided = refl
-numbers_of_parts (l ∷ ls) decided =
+numbers_of_parts [] whole = refl
+numbers_of_parts (l ∷ ls) whole =
     map-append number_of (parts_of l) (flat_map parts_of ls)
-    ∙ ap (λ ns. ns ++ map number_of (flat_map parts_of ls)) (one_part l l.op (decided l (at_head l ls l refl)))
-    ∙ ap (λ ns. l.number ∷ ns) (numbers_of_parts ls (λ label there. decided label (behind_head l ls label there)))
+    ∙ ap (λ ns. ns ++ map number_of (flat_map parts_of ls)) (one_part l l.op (whole l (at_head l ls l refl)))
+    ∙ ap (λ ns. l.number ∷ ns) (numbers_of_parts ls (λ label there. whole label (behind_head l ls label there)))
+
+decided_whole : (kind : Kind) → is_decided_by_conditions kind ≡ true → has_whole_labels kind ≡ true
+decided_whole Register decided = refl
+decided_whole LwwSet decided = refl
+decided_whole _ decided = absurd (false≢true decided)
 
 -- ---- orders of numbers
 kept_numbers : (test : ℕ → Bool) (ps : List Part)
@@ -124,7 +128,7 @@ kept_numbers test (p ∷ ps) agrees =
     ∙ ap (λ ns. cond (test p.label.number) (p.label.number ∷ ns) ns)
     (kept_numbers test ps (λ q there. agrees q (behind_head p ps q there)))
 
-before_unfiltered : (test : ℕ → Bool) (xs : List ℕ) (a b : ℕ) → IsBefore (filter test xs) a b → IsBefore xs a b
+pub before_unfiltered : (test : ℕ → Bool) (xs : List ℕ) (a b : ℕ) → IsBefore (filter test xs) a b → IsBefore xs a b
 before_unfiltered test [] a b before = before
 before_unfiltered test (x ∷ xs) a b before =
     cond_both (test x) (x ∷ filter test xs) (filter test xs) (λ ys. IsBefore ys a b → IsBefore (x ∷ xs) a b)
@@ -144,16 +148,16 @@ stands_in_labels sequence p q (before, between, after, split) =
     (reached number_of front p (Contains-append_right before (p ∷ between) p (at_head p between p refl)))
     (reached number_of (q ∷ after) q (at_head q after q refl)))
 
-module _ (kind : Kind) (decided : is_decided_by_conditions kind ≡ true) (records : Records)
+module _ (kind : Kind) (whole : has_whole_labels kind ≡ true) (records : Records)
     (of_kind : (label : Label) → Contains (labels_of records) label → kind_of label.op ≡ kind) where
   abbrev parts : List Part
   parts = parts_in records
 
-  its_decided : (label : Label) → Contains (labels_of records) label → is_decided_by_conditions (kind_of label.op) ≡ true
-  its_decided label there = ap is_decided_by_conditions (of_kind label there) ∙ decided
+  its_whole : (label : Label) → Contains (labels_of records) label → has_whole_labels (kind_of label.op) ≡ true
+  its_whole label there = ap has_whole_labels (of_kind label there) ∙ whole
 
   numbers_are : map number_of parts ≡ map (λ label. label.number) (labels_of records)
-  numbers_are = numbers_of_parts (labels_of records) its_decided
+  numbers_are = numbers_of_parts (labels_of records) its_whole
 
   numbers_once : EachOnce (map number_of parts)
   numbers_once = subst EachOnce (sym numbers_are) (once_from_new (map (λ label. label.number) (labels_of records))
@@ -180,7 +184,7 @@ module _ (kind : Kind) (decided : is_decided_by_conditions kind ≡ true) (recor
       let (label, found, of_label) = piece_of parts_of (labels_of records) p there in
       let (act, among, is) = from_where (part_of label) (acts_of label.op) p of_label in
       subst (λ (q : Part). is_update_part q ≡ is_update_at records q.label.number) is
-      (everyone (UpdatesIt label.op) (acts_of label.op) act (all_update label.op (its_decided label found)) among
+      (everyone (UpdatesIt label.op) (acts_of label.op) act (all_update label.op (its_whole label found)) among
       ∙ sym (updates_at records label found))
 
   module _ (sequence : List Part) (same : IsPermutation parts sequence) where
@@ -280,15 +284,17 @@ module _ (kind : Kind) (decided : is_decided_by_conditions kind ≡ true) (recor
     order_in_turn : label_order in_turn.ordered ≡ order
     order_in_turn = in_turn.keys_are
 
-    pub explaining_order : MeetsPlainConditions records → MeetsAll order (conditions_of records)
+    in_turn_updates : update_order in_turn.ordered ≡ filter (is_update_at records) order
+    in_turn_updates = updates_are in_turn.ordered in_turn.same ∙ ap (filter (is_update_at records)) order_in_turn
+
+    pub explaining_order : is_decided_by_conditions kind ≡ true → MeetsPlainConditions records
+        → MeetsAll order (conditions_of records)
         → (sequence : List Part) × IsRaLinearization kind records sequence × (label_order sequence ≡ order)
-    explaining_order plain meets = (
+    explaining_order decided plain meets = (
       in_turn.ordered,
       linearizes kind decided records of_kind (update_order in_turn.ordered)
           (order_of_updates records in_turn.ordered in_turn.same)
-          (subst (λ ns. MeetsAll ns (conditions_of records))
-          (sym (updates_are in_turn.ordered in_turn.same ∙ ap (filter (is_update_at records)) order_in_turn))
-          (met_in records order meets))
+          (subst (λ ns. MeetsAll ns (conditions_of records)) (sym in_turn_updates) (met_in records order meets))
           plain in_turn.ordered in_turn.same in_turn_extends refl,
       order_in_turn,
     )
@@ -298,7 +304,22 @@ pub label_order_explaining : (kind : Kind) (records : Records) (order : List ℕ
     → MeetsAll order (conditions_of records)
     → (sequence : List Part) × IsRaLinearization kind records sequence × (label_order sequence ≡ order)
 label_order_explaining kind records order decided of_kind plain is meets =
-    explaining_order kind decided records of_kind order is plain meets
+    explaining_order kind (decided_whole kind decided) records of_kind order is decided plain meets
+
+-- of any kind whose labels are single parts, an order of the labels is that of a sequence
+pub label_order_sequenced : (kind : Kind) (records : Records) (order : List ℕ) → has_whole_labels kind ≡ true
+    → EachLabelIsOfKind kind records → IsOrderOfLabels records order
+    → (sequence : List Part) × IsPermutation (parts_in records) sequence
+    × (extends_visibility records sequence ≡ true) × (label_order sequence ≡ order)
+    × (update_order sequence ≡ filter (is_update_at records) order)
+label_order_sequenced kind records order whole of_kind is =
+    let turn = in_turn kind whole records of_kind order is in (
+      turn.ordered,
+      turn.same,
+      in_turn_extends kind whole records of_kind order is,
+      order_in_turn kind whole records of_kind order is,
+      in_turn_updates kind whole records of_kind order is,
+    )
 
 pub order_of_linearization : (kind : Kind) (records : Records) (sequence : List Part)
     → is_decided_by_conditions kind ≡ true → EachLabelIsOfKind kind records
@@ -306,16 +327,17 @@ pub order_of_linearization : (kind : Kind) (records : Records) (sequence : List 
     → (order : List ℕ) × IsOrderOfLabels records order × MeetsAll order (conditions_of records)
 order_of_linearization kind records sequence decided of_kind by_sight =
     let order = update_order sequence in
+    let whole = decided_whole kind decided in
     let (queried, same, extended, order_is) = sequenced records order
     (updates_ordered kind records sequence by_sight) (updates_extended kind records sequence by_sight) in (
       label_order queried,
-      order_of_labels kind decided records of_kind queried same extended,
+      order_of_labels kind whole records of_kind queried same extended,
       λ condition among b first.
           let (c, second, before) = conditions_met kind records sequence decided by_sight condition among b first in (
             c,
             second,
             before_unfiltered (is_update_at records) (label_order queried) b c
                 (subst (λ ns. IsBefore ns b c)
-                (sym order_is ∙ updates_are kind decided records of_kind queried same) before),
+                (sym order_is ∙ updates_are kind whole records of_kind queried same) before),
           ),
     )

@@ -18,5 +18,5 @@ pub use Rattle.ra_some_order.proofs.FewerConditions.{chosen_extend as cover_requ
 pub use Rattle.ra_some_order.proofs.KeptExplanations.{explained_if_holds as updates_stay_explained-holds, explained_with_update as updates_stay_explained-update}
 pub use Rattle.ra_some_order.proofs.KeptExplanations.{explained_with_delivery as updates_stay_explained-delivery, explained_with_join as updates_stay_explained-join}
 pub use Rattle.ra_some_order.proofs.KeptExplanations.{explained_at_update as updates_stay_explained-fault}
-pub use Rattle.ra_some_order.proofs.LabelSequences.{label_order_explaining as label_order_explains, order_of_linearization as linearization_orders_labels}
+pub use Rattle.ra_some_order.proofs.LabelSequences.{label_order_explaining as label_order_explains, order_of_linearization as linearization_orders_labels, label_order_sequenced as label_order_has_sequence}
 pub use Rattle.ra_some_order.proofs.NarrowedConditions.{narrow_exactly as narrow_condition_requires_as_much}

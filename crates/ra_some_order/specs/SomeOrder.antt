@@ -1,7 +1,8 @@
 -- The question whether some sequence explains the records, and the kinds for which conditions on the updates decide it.
 use Rattle.std.specs.Prelude.{◌≡◌, ℕ, Bool, true, false, is_some, List, map, filter, Contains}
 use Rattle.ra_labels.specs.declared.kind.Kind.{Kind}
-use Rattle.ra_labels.specs.declared.kind.Kind.TheVariants.{Register, LwwSet}
+use Rattle.ra_labels.specs.declared.kind.Kind.TheVariants.{Register, LwwSet, OrSet}
+use Rattle.ra_labels.specs.declared.kind.Kind.TheVariants as kinds
 use Rattle.ra_labels.specs.declared.label.Label.{Label}
 use Rattle.ra_labels.specs.Records.{Records, labels_of}
 use Rattle.ra_labels.specs.Answer.{kind_of}
@@ -21,6 +22,12 @@ abbrev pub is_decided_by_conditions : Kind → Bool
 is_decided_by_conditions Register = true
 is_decided_by_conditions LwwSet = true
 is_decided_by_conditions _ = false
+
+-- `true` if each operation of the kind is one part: no operation of it is a query and an update at once
+abbrev pub has_whole_labels : Kind → Bool
+has_whole_labels OrSet = false
+has_whole_labels kinds.List = false
+has_whole_labels _ = true
 
 -- the numbers of the labels of the updates, in the sequence's order
 abbrev pub update_order : List Part → List ℕ

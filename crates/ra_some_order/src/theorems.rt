@@ -21,7 +21,7 @@ ghost use Rattle.ra_some_order.specs.UpdateConditions.{visibility_conditions, re
 ghost use Rattle.ra_some_order.specs.PlainConditions.{IsPossibleRead, MeetsPlainConditions};
 ghost use Rattle.ra_some_order.specs.Covering.{anything, either, Cover, ExtendsVisibility};
 ghost use Rattle.ra_some_order.specs.LabelOrders.{IsOrderOfLabels, label_order, Narrows};
-ghost use Rattle.ra_some_order.specs.SomeOrder.{SomeOrderExplains, EachLabelIsOfKind, is_decided_by_conditions, update_order};
+ghost use Rattle.ra_some_order.specs.SomeOrder.{SomeOrderExplains, EachLabelIsOfKind, is_decided_by_conditions, has_whole_labels, update_order};
 
 /// Theorem: if a sequence linearizes the records, even by visibility alone, the plain conditions hold, and its updates
 /// are in an order of all updates that meets the conditions. Of any kind, this order extends visibility.
@@ -164,6 +164,17 @@ pub fn cover_requires_as_much()
         → let visible = visible_labels records n in Meets order
         (record { before = numbers_where first visible; after = numbers_where second visible })
         ↔ Meets order (record { before = numbers_where first labels; after = numbers_where second labels }) }
+{}
+
+/// Theorem: if all labels are of a kind whose labels are single parts, an order of all labels in which each comes after
+/// the updates that it sees and the earlier labels of its replica is that of a sequence. It has each part once, extends
+/// `must_precede`, and has the updates in the same order.
+pub fn label_order_has_sequence()
+    ensures { (kind : Kind) (records : Records) (order : List ℕ) → has_whole_labels kind ≡ true
+        → EachLabelIsOfKind kind records → IsOrderOfLabels records order
+        → (sequence : List Part) × IsPermutation (parts_in records) sequence
+        × (extends_visibility records sequence ≡ true) × (label_order sequence ≡ order)
+        × (update_order sequence ≡ filter (is_update_at records) order) }
 {}
 
 /// Theorem: an order of all labels in which each comes after the updates that it sees and the earlier labels of its
