@@ -19,7 +19,7 @@ use Rattle.ra_some_order.specs.VisibleUpdates.{visible_labels, elements_in}
 use Rattle.ra_some_order.specs.UpdateConditions.{value_condition, element_condition, read_conditions, conditions_of}
 use Rattle.ra_some_order.specs.PlainConditions.{IsPossibleRead, MeetsPlainConditions}
 use Rattle.ra_some_order.specs.SomeOrder.{EachLabelIsOfKind, is_decided_by_conditions}
-use Rattle.ra_some_order.specs.LabelOrders.{IsOrderOfLabels, Narrows}
+use Rattle.ra_some_order.specs.LabelOrders.{IsOrderOfLabels, OrderExplains, Narrows}
 use Rattle.ra_some_order.proofs.TheoremIndex.{conditions_iff, label_order_explains, linearization_orders_labels, narrow_condition_requires_as_much, stuck_set_is_final-plain}
 use Rattle.ra_some_order.proofs.LabelSequences.{label_below}
 use Rattle.ra_some_order.proofs.UpdateOrders.{found_there}
@@ -27,7 +27,6 @@ use Rattle.ra_visibility.specs.Newest.{AreNewest}
 use Rattle.ra_any_order.specs.Previous.{IsLastBelow}
 use Rattle.ra_any_order.specs.Reading.{order_condition}
 use Rattle.ra_any_order.specs.Requirements.{IsInTurn, IsOverwritten, IsRefused, IsImpossible, AreConditionsBelow, AreReadConditions}
-use Rattle.ra_any_order.specs.Answers.{Explains}
 use Rattle.ra_any_order.proofs.NarrowSides.{AreListed}
 use Rattle.ra_any_order.proofs.LabelConditions.{full_there, required_met, one_more}
 use Rattle.ra_any_order.proofs.ElementReads.{named_changed}
@@ -131,7 +130,7 @@ module _ (records : Records) (conditions : List Condition)
 
   module _ (kind : Kind) (decided : is_decided_by_conditions kind ≡ true) (of_kind : EachLabelIsOfKind kind records) where
     pub order_explains : (order : List ℕ) → HasEachBelow (label_count records) order → MeetsAll order conditions
-        → Explains kind records order
+        → OrderExplains kind records order
     order_explains order each meets =
         let is = order_of_labels order each meets in
         (each, label_order_explains kind records order decided of_kind plain is (order_meets order each meets))

@@ -1,5 +1,7 @@
 //! The answer to the question whether any order explains the records.
 
+use ra_precedence::StuckSet;
+
 /// Whether any order of the labels explains the records.
 #[derive(Drop)]
 pub enum AnyOrder {
@@ -19,6 +21,6 @@ pub enum Refutation {
         /// The element of an LWW set that is listed or not; `None` for a register.
         element: Option<u32>,
     },
-    /// A stuck set of labels: none of them can be the last one of them.
-    Stuck(Vec<u32>),
+    /// Labels none of which can be the last one of them, and why.
+    Stuck(StuckSet),
 }

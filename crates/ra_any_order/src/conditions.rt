@@ -153,7 +153,7 @@ fn add_read(
         return Ok(Outcome::Possible);
     };
     match operation {
-        Op::Last(value) => add_value(conditions, alloc, operations, newest, *value),
+        Op::Last(value) => add_value(conditions, alloc, operations, newest, *value, label),
         Op::LwwRead(_) => add_elements(
             conditions, alloc, tracker, operations, previous, view, label,
         ),
@@ -168,11 +168,12 @@ fn add_value(
     operations: &[&Op],
     newest: &[u32],
     value: Option<u32>,
+    read: u32,
 ) -> Result<Outcome, NoMemory>
     ensures { IfOk result (IsValueOutcome (narrow_value (operations_in operations.now) newest.now value) value
         conditions.old.items conditions.new.items) }
 {
-    let condition = value_condition(alloc, operations, newest, value)?;
+    let condition = value_condition(alloc, operations, newest, value, read)?;
     let possible = is_possible_value(&condition, value);
     conditions.push(condition)?;
     if possible {
@@ -202,7 +203,5 @@ fn order_condition(
     if let Some(earlier) = previous {
         before.push(earlier)?;
     }
-    let mut after = Vec::new(alloc);
-    after.push(label)?;
-    Ok(Condition::new(before, after))
+    Condition::new(alloc, label, &before, &[label])
 }

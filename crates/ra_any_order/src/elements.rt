@@ -40,8 +40,8 @@ pub fn newest_of(
     Ok(found)
 }
 
-/// Returns the condition that the last one of these updates is an addition of the element, if it is listed, or a
-/// removal, if not.
+/// Returns the condition of a read that the last one of these updates is an addition of the element, if it is listed,
+/// or a removal, if not.
 ///
 /// # Errors
 ///
@@ -52,6 +52,7 @@ pub fn element_condition(
     labels: &[u32],
     listed: bool,
     element: u32,
+    read: u32,
 ) -> Result<Condition, NoMemory>
     ensures { IfOk result (λ condition. condition
         ≡ narrow_element (operations_in operations.now) labels.now listed element) }
@@ -66,7 +67,7 @@ pub fn element_condition(
             before.push(*label)?;
         }
     }
-    Ok(Condition::new(before, after))
+    Condition::new(alloc, read, &before, &after)
 }
 
 // Returns `true` if the label adds the element, if it is listed, or removes it, if not.

@@ -7,7 +7,7 @@ ghost use Rattle.ra_any_order.specs.Situation.{operations_in, IsHistoryOf};
 use crate::answer::{AnyOrder, Refutation};
 use crate::conditions::{Found, conditions_of};
 use ra_labels::{NoMemory, Op};
-use ra_precedence::{Solution, order_of};
+use ra_precedence::{Solution, order_of, stuck_set};
 use ra_visibility::Tracker;
 use std::alloc::Global;
 
@@ -22,6 +22,9 @@ use std::alloc::Global;
 ///
 /// O(n · r) for a register with `n` labels of `r` replicas. O((n + e) · r · log n + l · log l) for an LWW set, where
 /// `l` is the total length of the reads and `e` the number of elements that they check: at most n · r + 2 · l.
+///
+/// If there is no order, the reasons of a stuck set take O(n · r · (log n + r)) more for a register, and the same for
+/// each checked element of an LWW set.
 ///
 /// A read checks the elements that a new update changed, once for each replica of such updates, and those that only one
 /// of this read and the last one of its replica returned.
@@ -45,6 +48,9 @@ pub fn some_order(
     };
     match order_of(alloc, tracker.labels(), &conditions)? {
         Solution::Order(order) => Ok(AnyOrder::Exists(order)),
-        Solution::Stuck(set) => Ok(AnyOrder::NoneExists(Refutation::Stuck(set))),
+        Solution::Stuck(set) => {
+            let stuck = stuck_set(alloc, tracker.labels(), &conditions, set)?;
+            Ok(AnyOrder::NoneExists(Refutation::Stuck(stuck)))
+        }
     }
 }

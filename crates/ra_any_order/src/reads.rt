@@ -77,6 +77,7 @@ pub fn add_elements(
         replicas,
         &elements,
         &listed,
+        label,
     )
 }
 
@@ -126,6 +127,7 @@ fn add_each(
     replicas: u8,
     elements: &[u32],
     listed: &BTreeSet<u32>,
+    read: u32,
 ) -> Result<Outcome, NoMemory>
     ensures { IfOk result (IsElementsOutcome (operations_in operations.now) newest.now replicas
         (contains nat_cmp listed.now) elements.now conditions.old.items conditions.new.items) }
@@ -133,7 +135,9 @@ fn add_each(
     for element in elements {
         let is_listed = listed.contains(element);
         let newest = newest_of(alloc, newest, replicas, *element)?;
-        if !add_one(conditions, alloc, operations, &newest, is_listed, *element)? {
+        if !add_one(
+            conditions, alloc, operations, &newest, is_listed, *element, read,
+        )? {
             return Ok(Outcome::Impossible(Some(*element)));
         }
     }
@@ -149,13 +153,14 @@ fn add_one(
     newest: &[u32],
     is_listed: bool,
     element: u32,
+    read: u32,
 ) -> Result<bool, NoMemory>
     ensures added { OnOk result (conditions.new.items ≡ conditions.old.items
         ++ narrow_element (operations_in operations.now) newest.now is_listed element ∷ []) }
     ensures possible { IfOk result (λ possible. possible
         ≡ is_possible_element (narrow_element (operations_in operations.now) newest.now is_listed element) is_listed) }
 {
-    let condition = element_condition(alloc, operations, newest, is_listed, element)?;
+    let condition = element_condition(alloc, operations, newest, is_listed, element, read)?;
     let possible = is_possible_element(&condition, is_listed);
     conditions.push(condition)?;
     Ok(possible)

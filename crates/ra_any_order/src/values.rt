@@ -9,8 +9,8 @@ use ra_labels::{NoMemory, Op};
 use ra_precedence::Condition;
 use std::alloc::Global;
 
-/// Returns the condition that the last one of these writes is one of the value: each write of another value comes
-/// before one of this value.
+/// Returns the condition of a read that the last one of these writes is one of the value: each write of another value
+/// comes before one of this value.
 ///
 /// # Errors
 ///
@@ -20,6 +20,7 @@ pub fn value_condition(
     operations: &[&Op],
     labels: &[u32],
     value: Option<u32>,
+    read: u32,
 ) -> Result<Condition, NoMemory>
     ensures before { IfOk result (λ condition. condition.before
         ≡ filter (passes_at (operations_in operations.now) (writes_other value)) labels.now) }
@@ -35,7 +36,7 @@ pub fn value_condition(
             None => {}
         }
     }
-    Ok(Condition::new(before, after))
+    Condition::new(alloc, read, &before, &after)
 }
 
 // Returns whether the write of this label is one of the value; `None` if it is no write.

@@ -1,6 +1,6 @@
 -- Lemmas on what the conditions of all labels lead to.
 use Rattle.std.proofs.Common.{◌≡◌, ℕ, true, false, List, [], ◌∷◌, ◌++◌, Option, Some, None, length, get_or, refl, sym, ap, subst, ◌∙◌, inl, inr, arith}
-use Rattle.std.specs.Prelude.{filter, Contains, slice_get, option_and_then}
+use Rattle.std.specs.Prelude.{Contains, slice_get, option_and_then}
 use Rattle.std.specs.Option.{option_map_or}
 use Rattle.std.proofs.lemmas.Option.{none-some}
 use Rattle.std.proofs.lemmas.List.Elements.{Contains-get_or}
@@ -14,17 +14,19 @@ use Rattle.ra_labels.proofs.Members.{head_or_behind, at_head, none_there}
 use Rattle.ra_list_order.proofs.Cycles.{new_from_once}
 use Rattle.ra_precedence.specs.Conditions.{Condition, no_condition, condition_at, MeetsAll, HasEachBelow, NameOnlyBelow}
 use Rattle.ra_some_order.specs.SomeOrder.{EachLabelIsOfKind}
-use Rattle.ra_some_order.proofs.LabelOrders.{order_in, before_filtered}
+use Rattle.ra_some_order.specs.Covering.{ExtendsVisibility}
+use Rattle.ra_some_order.specs.LabelOrders.{IsOrderOfLabels, OrderExplains}
 use Rattle.ra_rga_conditions.specs.Precedence.{Inserts, Needs, MustStandBefore, Seen, Needed, Read}
 use Rattle.ra_rga_conditions.specs.Plain.{MeetsPlainConditions}
 use Rattle.ra_rga_conditions.proofs.EarlierRecords.{precedes_updates}
-use Rattle.ra_rga_conditions.proofs.TheoremIndex.{order_explains}
+use Rattle.ra_rga_conditions.proofs.TheoremIndex.{label_order_explains}
 use Rattle.ra_rga_precedence.specs.Operations.{element_needed}
 use Rattle.ra_rga_precedence.specs.Needing.{IsNeeded, AreNeeded}
+use Rattle.ra_rga_precedence.specs.LabelSlots.{KeepsOrderOfUpdates}
 use Rattle.ra_rga_precedence.specs.Ranks.{AreRanks, AreNeedRanks}
 use Rattle.ra_rga_precedence.specs.Neighbors.{edge}
 use Rattle.ra_rga_precedence.specs.UpdateConditions.{NameBelow, HoldNeeds, AreUpdateConditions}
-use Rattle.ra_rga_precedence.specs.Answers.{AreDemanded, AreEnough, AreReadConditions, Explains}
+use Rattle.ra_rga_precedence.specs.Answers.{AreDemanded, AreEnough, AreReadConditions}
 use Rattle.ra_rga_precedence.specs.Inserting.{AreInserters}
 use Rattle.ra_rga_precedence.proofs.ConditionLists.{AreListed, updates_same}
 use Rattle.ra_rga_precedence.proofs.Translations.{listed_needs, needs_listed, needs_below, exists_at}
@@ -146,12 +148,13 @@ module _ (records : Records) (operations : List Op) (listed : AreListed records 
 
 -- ---- an order that meets the conditions
 pub order_explaining : (records : Records) → EachLabelIsOfKind Rga records → MeetsPlainConditions records
-    → (conditions : List Condition) → AreEnough records conditions → (order : List ℕ)
-    → HasEachBelow (label_count records) order → MeetsAll order conditions → Explains records order
-order_explaining records of_kind plain conditions enough order each meets = (
-  each,
-  order_explains records (filter (is_update_at records) order) of_kind plain (order_in records order each)
-      (λ m n first.
-      let (m_updates, n_updates) = precedes_updates records m n first in
-      before_filtered (is_update_at records) order m n m_updates n_updates (enough order each meets m n first)),
-)
+    → (conditions : List Condition) → AreEnough records conditions → (order labels : List ℕ)
+    → HasEachBelow (label_count records) order → MeetsAll order conditions
+    → (ExtendsVisibility records order → IsOrderOfLabels records labels × KeepsOrderOfUpdates records order labels)
+    → OrderExplains Rga records labels
+order_explaining records of_kind plain conditions enough order labels each meets placed =
+    let keeps = enough order each meets in
+    let (is, kept) = placed (λ n m updates seen. keeps m n (Seen updates seen)) in
+    label_order_explains records labels of_kind plain is (λ m n first.
+    let (m_updates, n_updates) = precedes_updates records m n first in
+    kept m n m_updates n_updates (keeps m n first))

@@ -6,6 +6,8 @@ pub mod InsertedElements
 pub mod KeptUpdates
 pub mod Places
 pub mod RankLists
+pub mod LabelSlots
+pub mod SortedSlots
 pub mod Climbing
 pub mod Marking
 pub mod TreeWays

@@ -32,6 +32,12 @@ pub ranks_all : (count : ℕ) (order ranks : List ℕ) → HasEachBelow count or
     → AreRanksBelow order ranks (length order) → AreRanks count order ranks
 ranks_all count order ranks each len are = record {
   len = len;
+  within =
+      λ n below.
+      let (i, at) = place_of order n ((each.all n).0 below) in
+      let is = sym (ap (λ x. get_or ranks x 0) at.here) ∙ are i at.within in
+      let low = at.within in
+      omega (arith, is, low);
   positive =
       λ n below.
       let (i, at) = place_of order n ((each.all n).0 below) in

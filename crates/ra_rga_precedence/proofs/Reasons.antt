@@ -75,8 +75,8 @@ module _ (records : Records) (of_kind : EachLabelIsOfKind Rga records) where
       absent (((plain.reads read list reads).listed x).1 (visible_insertion records read m x inserts seen, stays)))
   reason_final (Below read x y) ((before, after, reads), under) = from_plain (λ plain.
       (plain.reads read (before ++ x ∷ y ∷ after) reads).below x y (before, after, reads) under)
-  reason_final (Stuck set) (conditions, demanded, stuck) =
-      stuck_set_is_final records conditions set.items
+  reason_final (Stuck set) (conditions, demanded, stuck, reasons) =
+      stuck_set_is_final records conditions set.labels.items
       (λ condition b there before.
       let (c, is, must) = demanded condition b there before in
       (c, subst (λ cs. Contains cs c) (sym is) (at_head c [] c refl), must)) stuck

@@ -1,17 +1,16 @@
 -- What the answer states.
-use Rattle.std.specs.Prelude.{◌≡◌, ◌<◌, ◌+◌, ◌⊎◌, ◌∷◌, [], ℕ, true, false, List, filter, length, get_or, Contains, Option, Some, None}
+use Rattle.std.specs.Prelude.{◌≡◌, ◌<◌, ◌+◌, ◌⊎◌, ◌∷◌, [], ℕ, true, false, List, length, get_or, Contains, Option, Some, None}
 use Rattle.ra_labels.specs.declared.kind.Kind.TheVariants.{Rga}
 use Rattle.ra_labels.specs.declared.operation.Op.TheVariants as op
 use Rattle.ra_labels.specs.declared.operation.Update.TheVariants.{RgaRemove}
 use Rattle.ra_labels.specs.Edges.{IsBefore}
 use Rattle.ra_labels.specs.Records.{Records, label_count}
-use Rattle.ra_labels.specs.Visibility.{is_update_at, sees}
-use Rattle.ra_labels.specs.Rewriting.{Part}
-use Rattle.ra_labels.specs.Linearization.{IsRaLinearization}
+use Rattle.ra_labels.specs.Visibility.{sees}
 use Rattle.ra_labels.specs.TheoremTerms.{WasInserted}
 use Rattle.ra_theorems.specs.AnyOrder.{NoneLinearizes}
+use Rattle.ra_precedence.specs.Reasons.{AreReasons}
 use Rattle.ra_precedence.specs.Conditions.{Condition, MeetsAll, IsStuck, HasEachBelow}
-use Rattle.ra_some_order.specs.SomeOrder.{update_order}
+use Rattle.ra_some_order.specs.LabelOrders.{OrderExplains}
 use Rattle.ra_rga_forks.specs.Forks.{IsUnder}
 use Rattle.ra_rga_conditions.specs.Precedence.{HasOperationAt, Inserts, Needs, ListsTogether, updates_seen, IsRead, MustStandBefore}
 use Rattle.ra_rga_conditions.specs.Plain.{IsPossibleRead, MeetsPlainConditions}
@@ -64,16 +63,12 @@ IsReason records (Wrong read x) = IsWronglyListed records read x
 IsReason records (Unlisted read m) = IsUnlisted records read m
 IsReason records (Below read x y) = ListsTogether records read x y × IsUnder (updates_seen records read) x y
 IsReason records (Stuck set) =
-    (conditions : List Condition) × AreDemanded records conditions × IsStuck conditions set.items
-
--- holds if the order has each label once, and some RA-linearization has the updates in this order
-abbrev pub Explains : Records → List ℕ → Type 0
-Explains records order = HasEachBelow (label_count records) order × ((sequence : List Part)
-    × IsRaLinearization Rga records sequence × (update_order sequence ≡ filter (is_update_at records) order))
+    (conditions : List Condition) × AreDemanded records conditions × IsStuck conditions set.labels.items
+    × AreReasons conditions set.reasons.items
 
 -- holds if the order explains the records; or if the reason is one, and no sequence at all linearizes the records
 abbrev pub IsAnswer : Records → AnyOrder → Type 0
-IsAnswer records (Exists order) = Explains records order.items
+IsAnswer records (Exists order) = OrderExplains Rga records order.items
 IsAnswer records (NoneExists reason) = IsReason records reason × NoneLinearizes Rga records
 
 -- holds if the reads below a number are possible, and the new conditions are the old ones and those of these reads

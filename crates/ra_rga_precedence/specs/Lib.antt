@@ -5,6 +5,7 @@ pub mod Needing
 pub mod Complete
 pub mod UpdateConditions
 pub mod Ranks
+pub mod LabelSlots
 pub mod Relations
 pub mod Marks
 pub mod Views

@@ -1,9 +1,11 @@
 //! The answer to the question whether any order explains the records.
 
+use ra_precedence::StuckSet;
+
 /// Whether any order of the labels explains the records.
 #[derive(Drop)]
 pub enum AnyOrder {
-    /// An order of all labels. Some RA-linearization has the updates in this order.
+    /// An order of all labels. The parts of the labels in this order are an RA-linearization.
     Exists(Vec<u32>),
     /// No sequence is an RA-linearization, for this reason.
     NoneExists(Refutation),
@@ -48,6 +50,6 @@ pub enum Refutation {
         /// The next one, an ancestor of the first one.
         second: u32,
     },
-    /// A stuck set of labels: none of them can be the last one of them.
-    Stuck(Vec<u32>),
+    /// Labels none of which can be the last one of them, and why.
+    Stuck(StuckSet),
 }

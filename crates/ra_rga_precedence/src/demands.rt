@@ -100,7 +100,7 @@ fn add_label(
         Some(list) => {
             let seen = tracker.vis(label);
             match add_read(
-                conditions, alloc, insertions, tracker, operations, view, &seen, list,
+                conditions, alloc, insertions, tracker, operations, view, &seen, list, label,
             )? {
                 Some(fault) => Ok(Some(refutation_of(label, fault))),
                 None => Ok(None),

@@ -1,10 +1,14 @@
-//! Whether any order of the updates explains the records of an RGA: what the records demand of an order, or why there
-//! is none.  An update comes after the newest update that it sees of each replica, and after the insertion of its
-//! anchor or of the element that it removes. Two adjacent elements of a read show which of two insertions came later.
-//! These conditions are edges between labels. An order meets them exactly if it keeps the precedence of the records
-//! (`ra_rga_conditions`).  Contract for the crates above: `demands_of` returns such conditions, or a refutation by
-//! which no sequence at all is an RA-linearization; `some_order` returns an order of the updates of some
-//! RA-linearization, or a refutation (`specs/Answers`).
+//! Whether any order of the labels explains the records of an RGA: such an order, or why there is none.
+//!
+//! An update comes after the newest update that it sees of each replica, and after the insertion of its anchor or of
+//! the element that it removes. Two adjacent elements of a read show which of two insertions came later. These
+//! conditions are edges between labels. An order meets them exactly if it keeps the precedence of the records
+//! (`ra_rga_conditions`). Reads fit into each such order: a read stands directly before the next update of its replica,
+//! or at the end.
+//!
+//! Contract for the crates above: `demands_of` returns such conditions, or a refutation by which no sequence at all is
+//! an RA-linearization; `some_order` returns an order in which the parts of all labels are one, or a refutation
+//! (`specs/Answers`).
 #![tactic(auto)]
 
 mod answer;
@@ -12,6 +16,7 @@ mod complete;
 mod demands;
 mod inserters;
 mod insertions;
+mod label_order;
 mod marks;
 mod needs;
 mod neighbors;

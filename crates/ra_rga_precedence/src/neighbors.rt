@@ -9,8 +9,8 @@ use ra_labels::NoMemory;
 use ra_precedence::Condition;
 use std::alloc::Global;
 
-/// Adds the conditions of neighbours in a list, given the labels that insert its elements. Returns the place of an
-/// element that stands under the next one, if there is one.
+/// Adds the conditions of neighbours in a read's list, given the labels that insert its elements. Returns the place of
+/// an element that stands under the next one, if there is one.
 ///
 /// # Errors
 ///
@@ -25,6 +25,7 @@ pub fn add_neighbors(
     needed: &[Option<u32>],
     ranks: &[usize],
     labels: &[u32],
+    read: u32,
 ) -> Result<Option<usize>, NoMemory>
     requires below { AreBelow (length needed.now) needed.now }
     requires ranks { AreNeedRanks needed.now ranks.now }
@@ -36,7 +37,7 @@ pub fn add_neighbors(
             Relation::Under => return Ok(Some(place)),
             Relation::Above => {}
             Relation::Apart { left, right } => {
-                let condition = edge(alloc, right, left)?;
+                let condition = edge(alloc, read, right, left)?;
                 conditions.push(condition)?;
             }
         }
@@ -44,13 +45,9 @@ pub fn add_neighbors(
     Ok(None)
 }
 
-// Returns the condition that one label stands before another one.
-fn edge(alloc: Global, first: u32, second: u32) -> Result<Condition, NoMemory>
+// Returns the condition of a read that one label stands before another one.
+fn edge(alloc: Global, read: u32, first: u32, second: u32) -> Result<Condition, NoMemory>
     ensures { IfOk result (λ condition. condition ≡ edge first second) }
 {
-    let mut before = Vec::new(alloc);
-    before.push(first)?;
-    let mut after = Vec::new(alloc);
-    after.push(second)?;
-    Ok(Condition::new(before, after))
+    Condition::new(alloc, read, &[first], &[second])
 }

@@ -10,11 +10,12 @@ use crate::answer::{AnyOrder, Refutation};
 use crate::demands::add_reads;
 use crate::inserters::{Inserted, inserters_of};
 use crate::insertions::Insertions;
+use crate::label_order::place_reads;
 use crate::needs::{Needs, needed_labels};
 use crate::ranks::ranks_of;
 use crate::update_conditions::update_conditions;
 use ra_labels::{NoMemory, Op};
-use ra_precedence::{Condition, Solution, order_of};
+use ra_precedence::{Condition, Solution, order_of, stuck_set};
 use ra_visibility::Tracker;
 use std::alloc::Global;
 
@@ -45,14 +46,14 @@ enum Foundation {
 ///
 /// # Complexity
 ///
-/// That of `demands_of`.
+/// That of `demands_of`. If a set is stuck, its reasons take the length of the conditions times O(log n + r) more.
 pub fn some_order(
     alloc: Global,
     tracker: &Tracker,
     operations: &[&Op],
 ) -> Result<AnyOrder, NoMemory>
-    // Of each history that the tracker and the operations represent: some RA-linearization has the updates in the
-    // order; or no sequence at all is one, not even by visibility alone, and the reason is one.
+    // Of each history that the tracker and the operations represent: the parts of the labels in the order are an
+    // RA-linearization; or no sequence at all is one, not even by visibility alone, and the reason is one.
     ensures { IfOk result (λ answer. (past : History)
         → IsHistoryOf tracker.now.now (operations_in operations.now) past → IsAnswer past.records answer) }
 {
@@ -61,8 +62,14 @@ pub fn some_order(
         Demands::Refuted(reason) => return Ok(AnyOrder::NoneExists(reason)),
     };
     match order_of(alloc, tracker.labels(), &conditions)? {
-        Solution::Order(order) => Ok(AnyOrder::Exists(order)),
-        Solution::Stuck(set) => Ok(AnyOrder::NoneExists(Refutation::Stuck(set))),
+        Solution::Order(order) => {
+            let labels = place_reads(alloc, tracker, operations, &order)?;
+            Ok(AnyOrder::Exists(labels))
+        }
+        Solution::Stuck(set) => {
+            let stuck = stuck_set(alloc, tracker.labels(), &conditions, set)?;
+            Ok(AnyOrder::NoneExists(Refutation::Stuck(stuck)))
+        }
     }
 }
 
@@ -119,7 +126,10 @@ fn foundation_of(
     let conditions = update_conditions(alloc, tracker, operations, needed.as_slice())?;
     let ranks = match order_of(alloc, count, &conditions)? {
         Solution::Order(order) => ranks_of(alloc, count, order.as_slice())?,
-        Solution::Stuck(set) => return Ok(Foundation::Refuted(Refutation::Stuck(set))),
+        Solution::Stuck(set) => {
+            let stuck = stuck_set(alloc, count, &conditions, set)?;
+            return Ok(Foundation::Refuted(Refutation::Stuck(stuck)));
+        }
     };
     let insertions = Insertions {
         inserters,

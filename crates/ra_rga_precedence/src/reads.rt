@@ -30,8 +30,9 @@ pub enum ReadFault {
     Below(u32, u32),
 }
 
-/// Adds the conditions of a read of the list that sees these updates, where the view is that of the replica's last
-/// read. Returns the reason if no order explains the read. Otherwise the view becomes that of this read.
+/// Adds the conditions of the read of this label, a read of the list that sees these updates, where the view is that of
+/// the replica's last read. Returns the reason if no order explains the read. Otherwise the view becomes that of this
+/// read.
 ///
 /// # Errors
 ///
@@ -50,6 +51,7 @@ pub fn add_read(
     view: &mut View,
     seen: &Seen<'_>,
     list: &[u32],
+    read: u32,
 ) -> Result<Option<ReadFault>, NoMemory>
     requires insertions { AreInsertions (operations_in operations.now) (labels_in tracker.now.now)
         (get nat_cmp insertions.now.inserters) insertions.now.needed.items insertions.now.ranks.items }
@@ -75,7 +77,7 @@ pub fn add_read(
         return Ok(Some(ReadFault::Unlisted(label)));
     }
     let ranks = insertions.ranks.as_slice();
-    if let Some(place) = add_neighbors(conditions, alloc, needed, ranks, &labels)? {
+    if let Some(place) = add_neighbors(conditions, alloc, needed, ranks, &labels, read)? {
         return Ok(Some(ReadFault::Below(list[place], list[place + 1])));
     }
     unmark(&mut view.removed, &labels);

@@ -59,7 +59,5 @@ fn update_condition(
     if let Some(earlier) = needed {
         before.push(earlier)?;
     }
-    let mut after = Vec::new(alloc);
-    after.push(label)?;
-    Ok(Condition::new(before, after))
+    Condition::new(alloc, label, &before, &[label])
 }

@@ -2,6 +2,7 @@
 
 use ra_any_order::{AnyOrder, Refutation, some_order};
 use ra_labels::{Elements, NoMemory, Op};
+use ra_precedence::StuckSet;
 use ra_visibility::{MOST_LABELS, Tracker};
 use std::alloc::Global;
 use std::process::Abort;
@@ -48,15 +49,19 @@ fn answer_to(
         }
     }
     match some_order(alloc, &tracker, &operations) {
-        Ok(answer) => Ok(plain(answer)),
-        Err(_) => Ok(plain(some_order(alloc, &tracker, &operations)?)),
+        Ok(answer) => Ok(plain(rt, answer)),
+        Err(_) => Ok(plain(rt, some_order(alloc, &tracker, &operations)?)),
     }
 }
 
-fn plain(answer: AnyOrder) -> Answer {
+// Returns the answer. A stuck set has to have reasons.
+fn plain(rt: &impl Abort, answer: AnyOrder) -> Answer {
     match answer {
         AnyOrder::Exists(order) => Answer::Order(order),
-        AnyOrder::NoneExists(Refutation::Stuck(set)) => Answer::Stuck(set),
+        AnyOrder::NoneExists(Refutation::Stuck(StuckSet { labels, reasons })) => {
+            assert!(rt; !reasons.is_empty());
+            Answer::Stuck(labels)
+        }
         AnyOrder::NoneExists(Refutation::Read { label, element }) => Answer::Read(label, element),
     }
 }

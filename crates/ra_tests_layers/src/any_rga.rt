@@ -1,6 +1,7 @@
 //! Tests of `ra_rga_precedence`: worked examples, which answers they get, and calls after a failed allocation.
 
 use ra_labels::{Elements, NoMemory, Op};
+use ra_precedence::StuckSet;
 use ra_rga_precedence::{AnyOrder, Refutation, some_order};
 use ra_visibility::{MOST_LABELS, Tracker};
 use std::alloc::Global;
@@ -70,18 +71,22 @@ fn answer_to(
         operations.push(op)?;
     }
     match some_order(alloc, &tracker, &operations) {
-        Ok(answer) => Ok(plain(answer)),
-        Err(_) => Ok(plain(some_order(alloc, &tracker, &operations)?)),
+        Ok(answer) => Ok(plain(rt, answer)),
+        Err(_) => Ok(plain(rt, some_order(alloc, &tracker, &operations)?)),
     }
 }
 
-fn plain(answer: AnyOrder) -> Answer {
+// Returns the answer. A stuck set has to have reasons.
+fn plain(rt: &impl Abort, answer: AnyOrder) -> Answer {
     let reason = match answer {
         AnyOrder::Exists(order) => return Answer::Order(order),
         AnyOrder::NoneExists(reason) => reason,
     };
     match reason {
-        Refutation::Stuck(set) => Answer::Stuck(set),
+        Refutation::Stuck(StuckSet { labels, reasons }) => {
+            assert!(rt; !reasons.is_empty());
+            Answer::Stuck(labels)
+        }
         Refutation::Twice(m, n) => Answer::Twice(m, n),
         Refutation::Root(label) => Answer::Root(label),
         Refutation::Absent(label) => Answer::Absent(label),
@@ -127,6 +132,24 @@ fn two_reads_have_to_agree(rt: HostRuntime) -> Result<(), Fail> {
     events.push(Event::Read(1, vec![in alloc; 2, 1]?))?;
     let found = answer_to(&rt, alloc, 2, &events)?;
     assert_eq!(rt; found, Answer::Stuck(vec![in alloc; 0, 1]?));
+    Ok(())
+}
+
+// Each read stands before the next update of its replica, and behind what it sees, whatever its number is.
+#[test]
+fn reads_stand_before_the_next_update(rt: HostRuntime) -> Result<(), Fail> {
+    let alloc = rt.alloc();
+    let events = vec![in alloc;
+        Event::After(0, 0, 1),
+        Event::Read(1, Vec::new(alloc)),
+        Event::After(1, 0, 2),
+        Event::Got(0, 2),
+        Event::Got(1, 0),
+        Event::Read(1, vec![in alloc; 1, 2]?),
+        Event::Read(0, vec![in alloc; 1, 2]?),
+    ]?;
+    let found = answer_to(&rt, alloc, 2, &events)?;
+    assert_eq!(rt; found, Answer::Order(vec![in alloc; 1, 2, 0, 3, 4]?));
     Ok(())
 }
 

@@ -1,6 +1,7 @@
 use Rattle.std.proofs.Common.{◌<◌, sym, subst, ◌∙◌}
 use Rattle.ra_visibility.specs.Tracked.{labels_in}
 use Rattle.ra_precedence.specs.Conditions.{NameOnlyBelow, HasEachBelow, MeetsAll, IsStuck}
+use Rattle.ra_precedence.specs.Reasons.{AreReasons}
 use Rattle.ra_precedence.specs.Solved.{IsSolution}
 use Rattle.ra_any_order.specs.Found.{IsFound, NamesBelow}
 use Rattle.ra_any_order.proofs.NamedLabels.{names_only}
@@ -38,8 +39,14 @@ returns c = λ past stands.
     let conditions = c.in-Conditions.conditions.items in
     let are = subst (IsFound past.records) c.in-Conditions.is (c.in_ok-conditions.ensures.found past stands) in
     let (stuck, below) = subst (IsSolution c.labels.result c.deref.result.now) c.in-Stuck.is c.in_ok-order.ensures in
-    let held = subst (λ cs. IsStuck cs c.in-Stuck.set.items) c.deref.ensures.value stuck in (
-      (conditions, are.required, held),
+    let held = subst (λ cs. IsStuck cs c.in-Stuck.set.items) c.deref.ensures.value stuck in
+    let its = c.in_ok-stuck-in-Stuck.stuck in (
+      (
+        conditions,
+        are.required,
+        subst (IsStuck conditions) (sym c.in_ok-stuck-in-Stuck.ensures.labels) held,
+        subst (λ cs. AreReasons cs its.reasons.items) c.deref-in-Stuck.ensures.value c.in_ok-stuck-in-Stuck.ensures.reasons,
+      ),
       stuck_refutes past.records conditions are past.kind stands.kind stands.of_kind
           c.in-Stuck.set.items held (λ b there. subst (λ k. b < k) count (below b there)),
     )

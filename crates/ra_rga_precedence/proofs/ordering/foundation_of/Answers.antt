@@ -3,6 +3,7 @@ use Rattle.std.specs.Ordering.{nat_cmp}
 use Rattle.std.specs.BTreeMap.{get}
 use Rattle.ra_visibility.specs.Tracked.{labels_in}
 use Rattle.ra_precedence.specs.Conditions.{NameOnlyBelow, MeetsAll, IsStuck}
+use Rattle.ra_precedence.specs.Reasons.{AreReasons}
 use Rattle.ra_precedence.specs.Solved.{IsSolution}
 use Rattle.ra_rga_precedence.specs.Situation.{operations_in}
 use Rattle.ra_rga_precedence.specs.Inserting.{IsInserted, AreInserters}
@@ -71,7 +72,9 @@ returns-in-Stuck-clause-foundation c = λ past stands.
           (subst (λ k. AreUpdateConditions past.records c.in-Each-2.labels.items k conditions) labels
           (subst (λ ls. AreUpdateConditions past.records ls (labels_in c.args.tracker.now.now) conditions)
           c.as_slice.ensures.value (c.in_ok-conditions.ensures.are past stands))),
-      subst (λ cs. IsStuck cs c.in-Stuck.set.items) c.deref.ensures.value stuck,
+      subst (IsStuck conditions) (sym c.in_ok-stuck-in-Stuck.ensures.labels)
+          (subst (λ cs. IsStuck cs c.in-Stuck.set.items) c.deref.ensures.value stuck),
+      subst (λ cs. AreReasons cs c.in_ok-stuck-in-Stuck.stuck.reasons.items) c.deref-in-Stuck.ensures.value c.in_ok-stuck-in-Stuck.ensures.reasons,
     )
 
 pub returns-clause-named : goal.returns-clause-named
