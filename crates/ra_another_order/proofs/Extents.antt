@@ -1,8 +1,8 @@
 -- Lemmas on how many of the first labels some order explains.
-use Rattle.std.proofs.Common.{◌≡◌, ℕ, zero, suc, ◌<◌, ◌≤◌, ◌+◌, ◌-◌, true, false, List, [], ◌∷◌, ◌++◌, Some, None, length, get_or, take, refl, sym, ap, subst, ◌∙◌, inl, inr, arith}
-use Rattle.std.specs.Prelude.{◌⊎◌, ◌==◌, Contains, slice_get, option_map, option_and_then}
+use Rattle.std.proofs.Common.{◌≡◌, ℕ, zero, suc, ◌<◌, ◌≤◌, ◌+◌, ◌-◌, true, false, List, [], ◌∷◌, ◌++◌, Option, Some, None, length, get_or, take, refl, sym, ap, subst, ◌∙◌, inl, inr, arith}
+use Rattle.std.specs.Prelude.{◌⊎◌, ◌==◌, Contains, slice_get, option_map, option_and_then, MatchOption}
 use Rattle.std.proofs.lemmas.Bool.{cases_Bool, cases_eq, cases_lt, cond-true, cond-false, eq-eqb, ne_eqb, false≢true}
-use Rattle.std.proofs.lemmas.Option.{slice_get-get_or}
+use Rattle.std.proofs.lemmas.Option.{slice_get-get_or, none-some}
 use Rattle.std.proofs.lemmas.List.{take_all}
 use Rattle.ra_labels.specs.declared.kind.Kind.{Kind}
 use Rattle.ra_labels.specs.declared.kind.Kind.TheVariants.{Rga}
@@ -326,3 +326,15 @@ module _ (kind : Kind) (replicas : ℕ) (log : List MonitorEntry) where
               none_stays operations listed end asked (subst (IsComplete operations) (sym labels) complete) k
               (end_before k next (omega (arith, rises)) bound reached)
               (subst (λ e. NoneLinearizes kind (at e)) (are_ends.each (i + 1) next_end) (last.none next_end))
+
+-- ---- the label behind a prefix
+pub stop_at : (kind : Kind) (replicas : ℕ) (log : List MonitorEntry) (places : List ℕ)
+    → length places ≡ label_count (reported_in kind replicas log).records
+    → ((n place : ℕ) → slice_get places n ≡ Some place → IsPlaceOf kind replicas log n place)
+    → (n : ℕ) → n ≤ length places → (stop : Option ℕ) → stop ≡ slice_get places n
+    → MatchOption stop (label_count (reported_in kind replicas log).records ≡ n) (IsPlaceOf kind replicas log n)
+stop_at kind replicas log places count are n within (Some place) is = are n place (sym is)
+stop_at kind replicas log places count are n within None is = elim (cases_lt n (length places)) [
+  | inl below ↦ absurd (none-some (get_or places n 0) (is ∙ slice_get-get_or places n 0 below))
+  | inr past ↦ omega (arith, within, past, count)
+]

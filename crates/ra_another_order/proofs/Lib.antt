@@ -1,3 +1,5 @@
 pub mod ReportedLabels
 pub mod ListedOperations
 pub mod Extents
+pub mod KnownExtents
+pub mod SearchedExtents

@@ -14,6 +14,9 @@ use Rattle.ra_theorems.proofs.TheoremIndex.{operation_accepted_iff, well_formed_
 use Rattle.ra_some_order.specs.SomeOrder.{EachLabelIsOfKind}
 use Rattle.ra_monitor.specs.Monitor.{MonitorEntry, commands_of}
 use Rattle.ra_reported.specs.Reported.{reported_after, reported_after_all, reported_in, operation_at}
+use Rattle.ra_any_order.specs.Situation.{operations_in}
+use Rattle.ra_another_order.specs.declared.labels.Labels.{Labels}
+use Rattle.ra_another_order.specs.Operations.{AreLabelsOf, AreReported}
 
 module _ (kind : Kind) (replicas : ℕ) where
   of_kind_accepted : (records : Records) (command : Command) → refusal_of kind replicas records command ≡ None
@@ -65,3 +68,19 @@ pub operation_reported : (log : List MonitorEntry) (places : List ℕ) (records 
 operation_reported log places records count listed n within =
     let (label, at, numbered) = label_at_each_number-there records n (subst (λ k. n < k) count within) in
     ap is_some (listed n ∙ ap (option_map (λ (l : Label). l.op)) at)
+
+-- labels that a log reports are those of its history
+pub labels_reported : (kind : Kind) (replicas : ℕ) (log : List MonitorEntry) (it : Labels)
+    → AreReported kind replicas log it
+    → AreLabelsOf it.tracker.now (operations_in it.operations.items) (reported_in kind replicas log)
+labels_reported kind replicas log it are =
+    let (records, is, of_kind) = reported_of_kind kind replicas log in
+    record {
+      visibility = are.visibility;
+      listed = are.operations;
+      of_kind = subst (λ (h : History). EachLabelIsOfKind h.kind h.records) (sym is) of_kind;
+    }
+
+pub kind_reported : (kind : Kind) (replicas : ℕ) (log : List MonitorEntry) → (reported_in kind replicas log).kind ≡ kind
+kind_reported kind replicas log =
+    let (records, is, of_kind) = reported_of_kind kind replicas log in ap (λ (h : History). h.kind) is

@@ -1,9 +1,9 @@
 -- What the answer states.
-use Rattle.std.specs.Prelude.{ℕ, List}
+use Rattle.std.specs.Prelude.{Bool, true, false}
 use Rattle.ra_labels.specs.declared.kind.Kind.{Kind}
-use Rattle.ra_labels.specs.declared.kind.Kind.TheVariants.{Rga}
 use Rattle.ra_labels.specs.Records.{Records}
 use Rattle.ra_theorems.specs.AnyOrder.{NoneLinearizes}
+use Rattle.ra_some_order.specs.LabelOrders.{OrderExplains}
 use Rattle.ra_any_order.specs.Answers as lww
 use Rattle.ra_any_order.specs.declared.answer.AnyOrder as lww_order
 use Rattle.ra_any_order.specs.declared.answer.AnyOrder.TheVariants as lww_answers
@@ -15,12 +15,6 @@ use Rattle.ra_another_order.specs.declared.answer.Answer.TheVariants.{Exists, No
 use Rattle.ra_another_order.specs.declared.answer.Reason.{Reason}
 use Rattle.ra_another_order.specs.declared.answer.Reason.TheVariants.{Lww, Rga as OfRga}
 
--- holds if the order has each label once, and some RA-linearization has the updates in this order; of a register or an
--- LWW set, the parts of the labels in this order are one
-abbrev pub Explains : Kind → Records → List ℕ → Type 0
-Explains Rga records order = rga.Explains records order
-Explains kind records order = lww.Explains kind records order
-
 -- holds if the reason is one
 abbrev pub IsReason : Records → Reason → Type 0
 IsReason records (Lww reason) = lww.IsReason records reason
@@ -28,8 +22,13 @@ IsReason records (OfRga reason) = rga.IsReason records reason
 
 -- holds if the order explains the records; or if the reason is one, and no sequence at all linearizes the records
 abbrev pub IsAnswer : Kind → Records → Answer → Type 0
-IsAnswer kind records (Exists order) = Explains kind records order.items
+IsAnswer kind records (Exists order) = OrderExplains kind records order.items
 IsAnswer kind records (NoneExists reason) = IsReason records reason × NoneLinearizes kind records
+
+-- `true` if the answer is an order
+abbrev pub exists : Answer → Bool
+exists (Exists order) = true
+exists (NoneExists reason) = false
 
 -- the answer of a register or an LWW set
 abbrev pub of_lww : lww_order.AnyOrder → Answer

@@ -1,3 +1,4 @@
 pub mod Operations
 pub mod Answers
 pub mod Extent
+pub mod Opinions

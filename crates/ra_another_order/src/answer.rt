@@ -1,12 +1,27 @@
 //! The answer to the question whether another order explains the labels that a log reports.
+ghost use Rattle.std.specs.Prelude.{◌≡◌};
+ghost use Rattle.ra_another_order.specs.Answers.{exists};
 
 /// Whether some order of the labels explains them.
 #[derive(Drop)]
 pub enum Answer {
-    /// An order of all labels. Some RA-linearization has the updates in this order.
+    /// An order of all labels. The parts of the labels in this order are an RA-linearization.
     Exists(Vec<u32>),
     /// No sequence is an RA-linearization, for this reason.
     NoneExists(Reason),
+}
+
+impl Answer {
+    /// Returns `true` if some order explains the labels.
+    pub fn exists(&self) -> bool
+        // The result is `true` exactly if the answer is an order.
+        ensures { result ≡ exists self.now }
+    {
+        match self {
+            Answer::Exists(_) => true,
+            Answer::NoneExists(_) => false,
+        }
+    }
 }
 
 /// The reason why no sequence explains the labels.

@@ -1,23 +1,32 @@
 //! The longest prefix of the labels that some order explains.
-ghost use Rattle.std.specs.Prelude.{◌≡◌, ◌<◌, ◌≤◌, ℕ, length, get_or, IfOk, IfSome, is_none};
+ghost use Rattle.std.specs.Prelude.{◌≡◌, ◌<◌, ℕ, List, false, IfOk, length};
 ghost use Rattle.ra_theorems.specs.AnyOrder.{is_of_any_order};
-ghost use Rattle.ra_another_order.specs.Extent.{IsExtent};
+ghost use Rattle.ra_labels.specs.declared.kind.Kind.{Kind};
+ghost use Rattle.ra_monitor.specs.Monitor.{MonitorEntry, IsLegalLog};
+ghost use Rattle.ra_another_order.specs.Operations.{AreReported};
+ghost use Rattle.ra_another_order.specs.Extent.{records_at, IsExplained, HasExtent, CanBeSearched, AreBounds};
 
 use crate::ends::ends_of;
-use crate::operations::operations_of;
-use crate::search::last_explained;
+use crate::known::{known_extent, place_of};
+use crate::labels::Labels;
+use crate::search::{Bounds, last_explained};
 use ra_journal::Entry;
-use ra_labels::{Command, Kind, NoMemory, Reply};
-use ra_reported::Reported;
+use ra_labels::{Command, NoMemory, Reply};
+use ra_monitor::Setup;
 use ra_rga_precedence::complete_counts;
 use std::alloc::Global;
 
-/// Returns the length of the longest prefix of the labels that some order explains. The labels are those that the log
-/// reports in a history of this kind with this number of initial replicas. `None` if the kind is not a register, an LWW
-/// set or an RGA. The monitor's replies are ignored.
-///
-/// The search begins with the prefix that ends with `label`, which may be any number. Two questions are enough if the
-/// label is that of the monitor's violation and no order explains it, or if one explains all labels.
+/// The longest prefix of the reported labels that some order explains.
+#[derive(Drop)]
+pub struct Extent {
+    /// Its length.
+    pub explained: u32,
+    /// The place of the next label's operation in the log; `None` if the prefix has all labels.
+    pub stop: Option<u32>,
+}
+
+/// Returns the longest prefix of the labels that some order explains. `labels` are those that a monitor's log reports,
+/// and `is_explained` says whether some order explains those up to `end`.
 ///
 /// # Errors
 ///
@@ -25,43 +34,95 @@ use std::alloc::Global;
 ///
 /// # Complexity
 ///
-/// O(log n) times that of `another_order`, where `n` is the number of labels.
-pub fn explained_labels(
+/// O(1) if no entry follows `end` and the last one is the violation. Otherwise O(log n) times that of `another_order`,
+/// where `n` is the number of labels. The first question is about all labels if some order explains those up to `end`,
+/// and otherwise about those before the last of them; mostly it is the only one. If no order explains them either, two
+/// more are usual (`last_explained`). No clause states how often the question is asked.
+pub fn extent_of(
     alloc: Global,
-    kind: Kind,
-    replicas: u8,
+    setup: &Setup,
     log: &[Entry<Command, Reply>],
-    label: u32,
-) -> Result<Option<u32>, NoMemory>
-    // The result is `None` exactly for the kinds whose violations are final.
-    ensures asked { IfOk result (λ count. is_none count ≡ is_of_any_order kind) }
+    labels: &Labels<'_>,
+    end: usize,
+    is_explained: bool,
+) -> Result<Extent, NoMemory>
+    // The kind is a register, an LWW set or an RGA.
+    requires asked { is_of_any_order setup.now.kind ≡ false }
+    // A monitor of this setup recorded the log.
+    requires legal { IsLegalLog setup.now log.now }
+    // The labels are those that the log reports.
+    requires labels { AreReported setup.now.kind setup.now.replicas log.now labels.now }
+    // Some order explains the labels that the entries up to the end report, or none does.
+    requires known { IsExplained setup.now.kind
+        (records_at setup.now.kind setup.now.replicas log.now end) is_explained }
     // Some order explains the prefix of this length. No sequence at all linearizes a longer one, not even by visibility
-    // alone.
-    ensures extent { IfOk result (λ count. IfSome count (IsExtent kind replicas log.now)) }
+    // alone. The next label's operation is at this place, if there is a next label.
+    ensures { IfOk result (HasExtent setup.now.kind setup.now.replicas log.now) }
 {
-    match kind {
-        Kind::Register | Kind::LwwSet | Kind::Rga => {}
-        Kind::Counter | Kind::OrSet | Kind::List | Kind::Any | Kind::MvRegister => return Ok(None),
+    match known_extent(setup, log, labels, end, is_explained) {
+        Some(extent) => Ok(extent),
+        None => searched_extent(alloc, setup, log, labels, end, is_explained),
     }
-    let reported = Reported::of(alloc, kind, replicas, log)?;
-    let operations = operations_of(alloc, log, reported.places.as_slice())?;
-    let labels = reported.tracker.labels();
-    let counts = complete_counts(alloc, operations.as_slice(), labels)?;
-    let ends = ends_of(alloc, reported.places.as_slice(), counts.as_slice())?;
-    let likely = first_above(counts.as_slice(), label);
-    let last = last_explained(alloc, kind, replicas, log, ends.as_slice(), likely)?;
-    Ok(Some(counts[last]))
 }
 
-// Returns how many of the first counts are at most the label: the prefix that ends with it has the next count.
-fn first_above(counts: &[u32], label: u32) -> usize
-    ensures below { (i : ℕ) → i < result → get_or counts.now i 0 ≤ label }
-    ensures above { result < length counts.now → label < get_or counts.now result 0 }
+// Searches for the extent.
+fn searched_extent(
+    alloc: Global,
+    setup: &Setup,
+    log: &[Entry<Command, Reply>],
+    labels: &Labels<'_>,
+    end: usize,
+    is_explained: bool,
+) -> Result<Extent, NoMemory>
+    requires asked { is_of_any_order setup.now.kind ≡ false }
+    requires labels { AreReported setup.now.kind setup.now.replicas log.now labels.now }
+    requires known { IsExplained setup.now.kind
+        (records_at setup.now.kind setup.now.replicas log.now end) is_explained }
+    ensures { IfOk result (HasExtent setup.now.kind setup.now.replicas log.now) }
 {
-    for at in 0..counts.len() {
-        if counts[at] > label {
-            return at;
+    let places = labels.places.as_slice();
+    let count = labels.tracker.labels();
+    let counts = complete_counts(alloc, labels.operations.as_slice(), count)?;
+    let ends = ends_of(alloc, places, &counts)?;
+    let bounds = bounds_of(&ends, end, is_explained);
+    let last = last_explained(
+        alloc,
+        setup.kind,
+        setup.replicas,
+        log,
+        &ends,
+        places,
+        bounds,
+    )?;
+    let explained = counts[last];
+    Ok(Extent {
+        explained,
+        stop: place_of(places, explained),
+    })
+}
+
+// Returns bounds for the index of the last explained end, from what is known about `end`.
+fn bounds_of(ends: &[usize], end: usize, is_explained: bool) -> Bounds
+    requires { 0 < length ends.now }
+    ensures { (kind : Kind) (replicas : ℕ) (log : List MonitorEntry) → CanBeSearched kind replicas log ends.now
+        → IsExplained kind (records_at kind replicas log end) is_explained
+        → AreBounds kind replicas log ends.now result }
+{
+    let at = ends.partition_point(|it| *it < end);
+    if at == 0 || at >= ends.len() || ends[at] != end {
+        Bounds {
+            explained: 0,
+            unexplained: ends.len(),
+        }
+    } else if is_explained {
+        Bounds {
+            explained: at,
+            unexplained: ends.len(),
+        }
+    } else {
+        Bounds {
+            explained: 0,
+            unexplained: at,
         }
     }
-    counts.len()
 }

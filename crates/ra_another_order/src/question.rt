@@ -8,10 +8,9 @@ ghost use Rattle.ra_any_order.specs.Situation.{operations_in};
 ghost use Rattle.ra_another_order.specs.Operations.{AreLabelsOf};
 
 use crate::answer::{Answer, Reason};
-use crate::operations::operations_of;
+use crate::labels::Labels;
 use ra_journal::Entry;
 use ra_labels::{Command, Kind, NoMemory, Op, Reply};
-use ra_reported::Reported;
 use ra_visibility::Tracker;
 use std::alloc::Global;
 
@@ -34,24 +33,33 @@ pub fn another_order(
 ) -> Result<Option<Answer>, NoMemory>
     // The result is `None` exactly for the kinds whose violations are final.
     ensures asked { IfOk result (λ answer. is_none answer ≡ is_of_any_order kind) }
-    // Some RA-linearization of the reported history has the updates in the order. Or no sequence is one, not even one
-    // that only has to extend visibility, and the reason shows it.
+    // In the order, the parts of the reported labels are an RA-linearization. Or no sequence is one, not even one that
+    // only has to extend visibility, and the reason shows it.
     ensures answer { IfOk result (λ answer. IfSome answer
         (IsAnswer kind (reported_in kind replicas log.now).records)) }
 {
-    let reported = Reported::of(alloc, kind, replicas, log)?;
-    let operations = operations_of(alloc, log, reported.places.as_slice())?;
-    answer_by_kind(alloc, kind, &reported.tracker, operations.as_slice())
+    let labels = Labels::of(alloc, kind, replicas, log)?;
+    answer_by_kind(alloc, kind, &labels.tracker, labels.operations.as_slice())
 }
 
-// Returns the answer for the labels with these operations, whose visibility the tracker represents.
-fn answer_by_kind(
+/// Returns the answer for the labels with these operations, whose visibility the tracker represents.
+///
+/// # Errors
+///
+/// `NoMemory` if allocation fails.
+///
+/// # Complexity
+///
+/// That of `some_order` for the kind.
+pub fn answer_by_kind(
     alloc: Global,
     kind: Kind,
     tracker: &Tracker,
     operations: &[&Op],
 ) -> Result<Option<Answer>, NoMemory>
+    // The result is `None` exactly for the kinds whose violations are final.
     ensures asked { IfOk result (λ answer. is_none answer ≡ is_of_any_order kind) }
+    // The answer holds of each history of the kind with these labels.
     ensures answer { IfOk result (λ answer. (past : History) → past.kind ≡ kind
         → AreLabelsOf tracker.now.now (operations_in operations.now) past
         → IfSome answer (IsAnswer kind past.records)) }

@@ -1,9 +1,10 @@
 //! Tests of `ra_another_order`: what another order explains of a log, before and after a violation.
 
 use crate::commands::{bare, elements_of, got, is_told, reporter_of, stamped};
-use ra_another_order::{Answer, Reason, another_order, explained_labels};
+use ra_another_order::{Answer, Reason, SecondOpinion, another_order, second_opinion};
 use ra_labels::{Cause, Command, Kind, NoMemory, Op, Reply};
 use ra_monitor::Reporter;
+use ra_precedence::Held;
 use std::alloc::Global;
 use std::process::Abort;
 use std::test::Fail;
@@ -37,18 +38,33 @@ fn answer_to(alloc: Global, kind: Kind, told: &Reporter) -> Result<Option<Answer
     }
 }
 
-// How many first labels of the log some order explains, from a second call if an allocation fails in the first one.
-fn explained(
-    alloc: Global,
-    kind: Kind,
-    told: &Reporter,
-    likely: u32,
-) -> Result<Option<u32>, NoMemory> {
-    let log = told.monitor().log();
-    match explained_labels(alloc, kind, 2, log, likely) {
-        Ok(count) => Ok(count),
-        Err(_) => explained_labels(alloc, kind, 2, log, likely),
+// What another order explains of the log, from a second call if an allocation fails in the first one. The answer is
+// that about the first entries.
+fn opinion(alloc: Global, told: &Reporter, end: usize) -> Result<Option<SecondOpinion>, NoMemory> {
+    let monitor = told.monitor();
+    let (setup, log) = (monitor.setup(), monitor.log());
+    match second_opinion(alloc, &setup, log, end) {
+        Ok(opinion) => Ok(opinion),
+        Err(_) => second_opinion(alloc, &setup, log, end),
     }
+}
+
+// Whether some order explains the labels that the first entries report, how many labels some order explains, and the
+// place of the next one.
+fn explained(
+    rt: &impl Abort,
+    alloc: Global,
+    told: &Reporter,
+    end: usize,
+) -> Result<(bool, u32, Option<u32>), NoMemory> {
+    let Some(opinion) = opinion(alloc, told, end)? else {
+        panic!(rt; "the question is not asked");
+    };
+    Ok((
+        opinion.answer.exists(),
+        opinion.extent.explained,
+        opinion.extent.stop,
+    ))
 }
 
 // The order that explains all labels.
@@ -65,6 +81,17 @@ fn reason_in(rt: &impl Abort, answer: Option<Answer>) -> Reason {
         Some(Answer::NoneExists(reason)) => reason,
         _ => panic!(rt; "there is no reason"),
     }
+}
+
+// Whether these are the reasons, in any order: each a label, the one label that comes later, and the label that
+// requires it.
+fn are_reasons(reasons: &[Held], expected: &[(u32, u32, u32)]) -> bool {
+    reasons.len() == expected.len()
+        && expected.iter().all(|(label, later, by)| {
+            reasons.iter().any(|it| it.label == *label
+                && it.after.as_slice() == [*later].as_slice()
+                && it.by == *by)
+        })
 }
 
 // A register whose second write sees the first one and has a lower clock. The last reply is a violation.
@@ -94,7 +121,7 @@ fn another_order_explains_all(rt: HostRuntime) -> Result<(), Fail> {
     assert_eq!(rt; order.len(), 4);
     assert_eq!(rt; order[0], 0);
     assert_eq!(rt; order[1], 1);
-    assert_eq!(rt; explained(alloc, Kind::Register, &told, 1)?, Some(4));
+    assert_eq!(rt; explained(&rt, alloc, &told, 3)?, (true, 4, None));
     Ok(())
 }
 
@@ -108,15 +135,19 @@ fn a_later_read_is_explained_by_none(rt: HostRuntime) -> Result<(), Fail> {
     is_told(&rt, &mut told, read(0, 7), BACK);
     match reason_in(&rt, answer_to(alloc, Kind::Register, &told)?) {
         Reason::Lww(ra_any_order::Refutation::Stuck(set)) => {
-            assert!(rt; set.as_slice() == [0, 1].as_slice());
+            assert!(rt; set.labels.as_slice() == [0, 1].as_slice());
+            // Label 1 sees label 0, and label 3 reads what label 0 wrote.
+            assert!(rt; are_reasons(&set.reasons, &[(0, 1, 1), (1, 0, 3)]));
         }
         _ => panic!(rt; "no set is stuck"),
     }
-    assert_eq!(rt; explained(alloc, Kind::Register, &told, 1)?, Some(3));
+    assert_eq!(rt; explained(&rt, alloc, &told, 3)?, (true, 3, Some(5)));
+    assert_eq!(rt; explained(&rt, alloc, &told, 6)?, (false, 3, Some(5)));
     Ok(())
 }
 
-// Another order explains some labels beyond the violation; the search finds the last one from any start.
+// Another order explains some labels beyond the violation; the search finds the last one whichever entries are asked
+// about first.
 #[test]
 fn the_last_explained_label_is_found(rt: HostRuntime) -> Result<(), Fail> {
     let alloc = rt.alloc();
@@ -128,8 +159,9 @@ fn the_last_explained_label_is_found(rt: HostRuntime) -> Result<(), Fail> {
     for _ in 0..30 {
         is_told(&rt, &mut told, read(0, 7), BACK);
     }
-    for likely in [0, 1, 21, 22, 23, 1_000].iter() {
-        assert_eq!(rt; explained(alloc, Kind::Register, &told, *likely)?, Some(22));
+    for end in [0, 3, 4, 23, 24, 25, 26, 54, 1_000].iter() {
+        let found = explained(&rt, alloc, &told, *end)?;
+        assert_eq!(rt; found, (*end <= 24, 22, Some(24)));
     }
     Ok(())
 }
@@ -148,13 +180,16 @@ fn an_rga_has_another_order(rt: HostRuntime) -> Result<(), Fail> {
     is_told(&rt, &mut told, got(0, 1), Reply::Got(1));
     is_told(&rt, &mut told, got(1, 0), Reply::Got(0));
     is_told(&rt, &mut told, listed(&rt, alloc, 0, &[1, 2]), violation);
+    // 1 was inserted last, and the read stands behind both insertions.
     let order = order_in(&rt, answer_to(alloc, Kind::Rga, &told)?);
-    assert_eq!(rt; order.len(), 3);
-    assert_eq!(rt; explained(alloc, Kind::Rga, &told, 2)?, Some(3));
+    assert!(rt; order.as_slice() == [1, 0, 2].as_slice());
+    assert_eq!(rt; explained(&rt, alloc, &told, 5)?, (true, 3, None));
     is_told(&rt, &mut told, listed(&rt, alloc, 1, &[2, 1]), violation);
     match reason_in(&rt, answer_to(alloc, Kind::Rga, &told)?) {
         Reason::Rga(ra_rga_precedence::Refutation::Stuck(set)) => {
-            assert!(rt; set.as_slice() == [0, 1].as_slice());
+            assert!(rt; set.labels.as_slice() == [0, 1].as_slice());
+            // Label 2 lists 1 before 2, and label 3 the other way round.
+            assert!(rt; are_reasons(&set.reasons, &[(0, 1, 3), (1, 0, 2)]));
         }
         _ => panic!(rt; "no set is stuck"),
     }
@@ -172,12 +207,12 @@ fn an_anchor_comes_later(rt: HostRuntime) -> Result<(), Fail> {
     let mut told = reporter_of(&rt, alloc, Kind::Rga, 2, 100);
     is_told(&rt, &mut told, insert(0, 1, 1), Reply::Ok(0));
     is_told(&rt, &mut told, insert_behind(0, 5, 2, 2), violation);
-    assert_eq!(rt; explained(alloc, Kind::Rga, &told, 1)?, Some(1));
+    assert_eq!(rt; explained(&rt, alloc, &told, 2)?, (false, 1, Some(1)));
     is_told(&rt, &mut told, insert(1, 5, 3), violation);
-    assert_eq!(rt; explained(alloc, Kind::Rga, &told, 1)?, Some(3));
+    assert_eq!(rt; explained(&rt, alloc, &told, 2)?, (false, 3, None));
     is_told(&rt, &mut told, insert_behind(1, 9, 4, 4), violation);
     is_told(&rt, &mut told, insert(1, 8, 5), violation);
-    assert_eq!(rt; explained(alloc, Kind::Rga, &told, 1)?, Some(3));
+    assert_eq!(rt; explained(&rt, alloc, &told, 2)?, (false, 3, Some(3)));
     Ok(())
 }
 
@@ -187,6 +222,6 @@ fn a_counter_has_no_other_order(rt: HostRuntime) -> Result<(), Fail> {
     let alloc = rt.alloc();
     let told = reporter_of(&rt, alloc, Kind::Counter, 2, 100);
     assert!(rt; answer_to(alloc, Kind::Counter, &told)?.is_none());
-    assert!(rt; explained(alloc, Kind::Counter, &told, 0)?.is_none());
+    assert!(rt; opinion(alloc, &told, 0)?.is_none());
     Ok(())
 }

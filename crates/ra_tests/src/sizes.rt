@@ -28,9 +28,15 @@ fn many_labels_stand_by_their_stamps(rt: HostRuntime) {
         let stamp = stamp_of(number);
         stand(&rt, &mut tracker, &mut order, stamp);
     }
+    let numbers = match order.numbers(rt.alloc()) {
+        Ok(numbers) => numbers,
+        Err(_) => panic!(rt; "no memory"),
+    };
+    assert_eq!(rt; numbers.len(), MANY as usize);
     for number in 0..MANY {
         let at = stamp_of(number).clock as usize - 1;
         assert_eq!(rt; order.at(at), Some(number));
+        assert_eq!(rt; numbers.get(at), Some(&number));
     }
     assert_eq!(rt; order.at(MANY as usize), None);
 }
