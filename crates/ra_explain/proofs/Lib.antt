@@ -11,3 +11,4 @@ pub mod Reported
 pub mod Conflicts
 pub mod Positions
 pub mod Agreements
+pub mod ListRetold

@@ -60,7 +60,7 @@ told_same trial change replica place entry rest whole so kept =
     }
 
 -- the first entry of the rest is the one at its position
-next_one : (i : ℕ) (log : List MonitorEntry) (entry : MonitorEntry) → i < length log → entry ≡ get_or log i entry
+pub next_one : (i : ℕ) (log : List MonitorEntry) (entry : MonitorEntry) → i < length log → entry ≡ get_or log i entry
     → drop i log ≡ entry ∷ drop (i + 1) log
 next_one i log entry below is =
     let next : suc i ≡ i + 1 = omega arith in

@@ -7,6 +7,7 @@ use Rattle.ra_explain.specs.declared.explanation.Explanation.{Explanation}
 use Rattle.ra_explain.specs.declared.explanation.Purpose.{Purpose}
 use Rattle.ra_explain.specs.Explanation.{AreNone, HoldWith, IsFound, IsReport, undelivered_for}
 use Rattle.ra_explain.specs.Conflicts.{HasConflict}
+use Rattle.ra_explain.specs.Opinions.{HasOpinion, KnowsList}
 use Rattle.ra_explain.specs.Places.{places_in}
 use Rattle.ra_explain.specs.Rejected.{first_rejected}
 
@@ -23,4 +24,8 @@ pub record Explains (setup : Setup) (log : List MonitorEntry) (purpose : Purpose
   pub rejected : e.rejected.items ≡ first_rejected log
   pub violation : MatchOption e.violation (fault_in setup log ≡ None) (λ v. IsFound setup log purpose v)
   pub conflict : MatchOption e.violation (e.conflict ≡ None) (λ v. HasConflict setup log v e.conflict)
+  pub second_opinion : MatchOption e.violation (e.second_opinion ≡ None)
+      (λ v. HasOpinion setup log purpose v.place e.second_opinion)
+  pub one_list : MatchOption e.violation (e.one_list ≡ None)
+      (λ v. KnowsList setup log v.place e.second_opinion e.one_list)
   pub remedies : MatchOption e.violation (AreNone e.remedies) (λ v. HoldWith setup log v.place e.remedies)

@@ -8,7 +8,10 @@ pub mod Expected
 pub mod Undelivered
 pub mod Rejected
 pub mod Explanation
+pub mod OneList
+pub mod Opinions
 pub mod Explains
 pub mod LastDeliveries
 pub mod Spans
 pub mod Agreement
+pub mod Findings

@@ -281,7 +281,8 @@ fn is_left_out(change: Change, replica: u8, place: usize, command: &Command) -> 
     }
 }
 
-fn is_ok(reply: Reply) -> bool
+/// Returns `true` if the reply is `Ok`.
+pub fn is_ok(reply: Reply) -> bool
     ensures { result ≡ changes.is_ok reply }
 {
     match reply {

@@ -2,25 +2,29 @@
 ghost use Rattle.std.specs.Prelude.{◌≡◌, IfOk, IfSome, MatchOption, None, Some, option_map, slice_get};
 ghost use Rattle.ra_labels.specs.Records.{replica_count};
 ghost use Rattle.ra_monitor.specs.Monitor.{IsLegalLog, fault_in, records_of};
-ghost use Rattle.ra_explain.specs.Conflicts.{HasConflict, is_by_order};
+ghost use Rattle.ra_explain.specs.Conflicts.{HasConflict};
 ghost use Rattle.ra_explain.specs.Explanation.{AreNone, IsFound, IsReport, HoldWith, delivers, delivery_of, undelivered_for};
+ghost use Rattle.ra_explain.specs.Opinions.{HasOpinion, KnowsList};
 ghost use Rattle.ra_explain.specs.Origin.{operation_of, origin_of};
 ghost use Rattle.ra_explain.specs.Places.{places_in};
 ghost use Rattle.ra_explain.specs.Rejected.{first_rejected};
 
+use crate::certificate::Claim;
 use crate::conflict::Conflict;
+use crate::findings::Findings;
 use crate::origin::{Origin, operation_of, origin_of};
 use crate::places::{Places, entry_at};
 use crate::rejected::first_rejected;
 use crate::remedies::Remedies;
 use crate::undelivered::{Undelivered, undelivered_at_end};
 use crate::violation::Violation;
+use ra_another_order::SecondOpinion;
 use ra_journal::Entry;
-use ra_labels::{Cause, Command, Kind, NoMemory, Op, Reply};
+use ra_labels::{Command, NoMemory, Op, Reply};
 use ra_monitor::{Monitor, Report, Setup};
 use std::alloc::Global;
 
-/// The purpose of an explanation. It decides which lists are computed.
+/// The purpose of an explanation. It decides what is computed.
 #[derive(Clone, Copy, Debug, PartialEq, Eq)]
 pub enum Purpose {
     /// Text, which shows for a pass what replicas lack, and for a violation all reasons.
@@ -53,6 +57,15 @@ pub struct Explanation {
     pub violation: Option<Violation>,
     /// The conflict of the elements' orders, if the violation is one by the order of a list.
     pub conflict: Option<Conflict>,
+    /// What another order explains, if the violation is one of a register, an LWW set or an RGA and the purpose is not
+    /// a drawing.
+    pub second_opinion: Option<SecondOpinion>,
+    /// Why no order explains the labels up to the violation, by the second opinion. Empty if one does, or if there is
+    /// no opinion. No clause states it.
+    pub certificate: Vec<Claim>,
+    /// Whether the labels up to the violation hold as those of a list. Known of a violation of an RGA that no order of
+    /// the updates explains, by the second opinion.
+    pub one_list: Option<bool>,
     /// The changes of deliveries that were tried, and those with which the violating label would hold. Empty if there
     /// is no violation.
     pub remedies: Remedies,
@@ -69,8 +82,9 @@ impl Explanation {
     /// # Complexity
     ///
     /// One step for each entry of the log and one lookup for each label; if the purpose needs what was not delivered,
-    /// one lookup for each label and replica. For a violation also the cost of the named sequence and of
-    /// `Remedies::of`.
+    /// one lookup for each label and replica. For a violation also the cost of the named sequence, of `Remedies::of`,
+    /// of `ra_another_order::second_opinion`, and if no order explains it of its claims; of an RGA then once more the
+    /// monitor's steps, as those of a list.
     pub fn of(alloc: Global, monitor: Monitor, purpose: Purpose) -> Result<Explanation, NoMemory>
         // The explanation has the setup of the given monitor.
         ensures setup { IfOk result (λ it. it.setup ≡ monitor.setup) }
@@ -100,6 +114,16 @@ impl Explanation {
         // that a label shows the other way round than the violating one exactly if there are any.
         ensures conflict { IfOk result (λ it. MatchOption it.violation (it.conflict ≡ None) (λ violation.
             HasConflict monitor.setup monitor.log violation it.conflict)) }
+        // A second opinion is present exactly if the violation is one of a register, an LWW set or an RGA, and the
+        // purpose needs one. It says whether any order explains the labels up to the violation, and how many of all
+        // reported labels some order explains.
+        ensures second_opinion { IfOk result (λ it. MatchOption it.violation (it.second_opinion ≡ None) (λ violation.
+            HasOpinion monitor.setup monitor.log purpose violation.place it.second_opinion)) }
+        // `one_list` is `Some` exactly if the violation is one of an RGA and, by the second opinion, no order of the
+        // updates explains it. It is `false` if a read lists wrong elements; otherwise it is the answer of a list's
+        // monitor.
+        ensures one_list { IfOk result (λ it. MatchOption it.violation (it.one_list ≡ None) (λ violation.
+            KnowsList monitor.setup monitor.log violation.place it.second_opinion it.one_list)) }
         // The remedies are exactly those of the tried changes with which the violating label would hold; without a
         // violation no change is tried.
         ensures remedies { IfOk result (λ it. MatchOption it.violation (AreNone it.remedies) (λ violation.
@@ -116,9 +140,19 @@ impl Explanation {
         let report = monitor.report();
         let replicas = monitor.replicas();
         let log = monitor.into_log();
+        let Findings {
+            conflict,
+            second_opinion,
+            certificate,
+            one_list,
+            remedies,
+        } = Findings::of(alloc, &setup, &log, &places, &violation, purpose)?;
         Ok(Explanation {
-            conflict: conflict_for(alloc, &setup, &log, &places, &violation)?,
-            remedies: remedies_for(alloc, &setup, &log, &places, &violation)?,
+            conflict,
+            second_opinion,
+            certificate,
+            one_list,
+            remedies,
             setup,
             log,
             places,
@@ -219,67 +253,5 @@ fn undelivered_for(
     match (purpose, monitor.report().fault) {
         (Purpose::Object, _) | (Purpose::Text, None) => undelivered_at_end(alloc, monitor, places),
         (Purpose::Text, Some(_)) | (Purpose::Drawing, _) => Ok(Vec::new(alloc)),
-    }
-}
-
-// Returns the conflict of the elements' orders, if the violation is one by the order of a list.
-fn conflict_for(
-    alloc: Global,
-    setup: &Setup,
-    log: &[Entry<Command, Reply>],
-    places: &Places,
-    violation: &Option<Violation>,
-) -> Result<Option<Conflict>, NoMemory>
-    requires { places.now ≡ places_in log.now }
-    ensures { IfOk result (λ found. MatchOption violation.now (found ≡ None) (λ violation.
-        HasConflict setup.now log.now violation found)) }
-{
-    match violation {
-        Some(violation) => conflict_of(alloc, setup, log, places, violation),
-        None => Ok(None),
-    }
-}
-
-fn conflict_of(
-    alloc: Global,
-    setup: &Setup,
-    log: &[Entry<Command, Reply>],
-    places: &Places,
-    violation: &Violation,
-) -> Result<Option<Conflict>, NoMemory>
-    requires { places.now ≡ places_in log.now }
-    ensures { IfOk result (HasConflict setup.now log.now violation.now) }
-{
-    if is_by_order(setup.kind, violation.fault.cause) {
-        Ok(Some(Conflict::of(alloc, setup, log, places, violation)?))
-    } else {
-        Ok(None)
-    }
-}
-
-// Returns `true` if a violation of this kind and cause is one by the order of a list.
-fn is_by_order(kind: Kind, cause: Cause) -> bool
-    ensures { result ≡ is_by_order kind cause }
-{
-    match (kind, cause) {
-        (Kind::List, Cause::Order) => true,
-        _ => false,
-    }
-}
-
-// Tries changes with which the violating label would hold, if there is one.
-fn remedies_for(
-    alloc: Global,
-    setup: &Setup,
-    log: &[Entry<Command, Reply>],
-    places: &Places,
-    violation: &Option<Violation>,
-) -> Result<Remedies, NoMemory>
-    ensures { IfOk result (λ remedies. MatchOption violation.now (AreNone remedies) (λ violation.
-        HoldWith setup.now log.now violation.place remedies)) }
-{
-    match violation {
-        Some(violation) => Remedies::of(alloc, setup, log, places, violation),
-        None => Ok(Remedies::new(alloc)),
     }
 }
