@@ -1,5 +1,5 @@
 -- The explanation as a JSON object. A command is spelled as the writer of histories spells it.
-use Rattle.std.specs.Prelude.{ℕ, Bool, true, false, ◌&&◌, List, [], ◌∷◌, ◌++◌, length, Option, Some, None, is_none, codes, decimal, slice_get}
+use Rattle.std.specs.Prelude.{ℕ, Bool, true, false, ◌&&◌, List, [], ◌∷◌, ◌++◌, length, Option, Some, None, is_none, codes, decimal}
 use Rattle.std.specs.Option.{option_map_or}
 use Rattle.ra_labels.specs.declared.command.Command.{Command}
 use Rattle.ra_labels.specs.declared.edge.Edge.{Edge}
@@ -13,7 +13,9 @@ use Rattle.ra_explain.specs.declared.explanation.Explanation.{Explanation}
 use Rattle.ra_explain.specs.declared.remedies.Remedies.{Remedies}
 use Rattle.ra_explain.specs.declared.undelivered.Undelivered.{Undelivered}
 use Rattle.ra_explain.specs.declared.violation.Violation.{Violation}
-use Rattle.ra_explain_text.specs.Numbers.{line_number, size_word}
+use Rattle.ra_explain_text.specs.Certificates.{certificate_text}
+use Rattle.ra_explain_text.specs.Numbers.{label_line, line_number, size_word}
+use Rattle.ra_explain_text.specs.Opinions.{opinion_text, list_text}
 
 -- ---- a violation
 
@@ -60,10 +62,6 @@ abbrev pub violation_members : List (List ℕ) → Violation → Remedies → Li
 violation_members names v remedies = fault_members v ++ (command_members names v ++ remedies_members remedies)
 
 -- ---- a violation by the order of a list
-
--- the number of the line with label n, given the labels' positions; 0 if there is no such label
-abbrev pub label_line : List ℕ → ℕ → ℕ
-label_line places n = option_map_or line_number (slice_get places n) 0
 
 -- an edge: its ends, and the label that requires it with its line
 abbrev pub edge_value : List ℕ → Edge → List ℕ
@@ -140,7 +138,9 @@ lacks_members names is_first (lack ∷ lacks) =
 
 abbrev pub answer_members : List (List ℕ) → Explanation → Option Violation → List ℕ
 answer_members names e (Some violation) =
-    violation_members names violation e.remedies ++ conflict_text names e.places e.conflict
+    violation_members names violation e.remedies
+    ++ (conflict_text names e.places e.conflict ++ (opinion_text e.second_opinion
+    ++ (certificate_text e.second_opinion e.places e.certificate.items ++ list_text e.one_list)))
 answer_members names e None = pass_members e.report.labels
 
 -- the object of an explanation, with a line feed

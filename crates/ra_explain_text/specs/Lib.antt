@@ -1,8 +1,10 @@
 pub mod Numbers
-pub mod Json
 pub mod Rows
 pub mod Quotes
 pub mod Lacks
 pub mod Rejections
+pub mod Opinions
+pub mod Certificates
+pub mod Json
 pub mod Words
 pub mod Document

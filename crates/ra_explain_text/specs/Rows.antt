@@ -42,6 +42,9 @@ head_word head.So = codes "so"
 head_word head.Holds = codes "one that holds"
 head_word head.Removed = codes "removed"
 head_word head.Pairs = codes "pairs"
+head_word head.Because = codes "because"
+head_word head.And = codes "and"
+head_word head.OneList = codes "one list"
 
 -- `true` if the head is a word, and not that of a further line
 abbrev pub has_word : Head → Bool

@@ -19,6 +19,7 @@ use Rattle.ra_explain.specs.declared.explanation.Explanation.{Explanation}
 use Rattle.ra_explain.specs.declared.remedies.Remedies.{Remedies}
 use Rattle.ra_explain.specs.declared.violation.Violation.{Violation}
 use Rattle.ra_explain_text.specs.Lacks.{undelivered_rows}
+use Rattle.ra_explain_text.specs.Opinions.{opinion_row}
 use Rattle.ra_explain_text.specs.Rejections.{rejected_rows}
 use Rattle.ra_explain_text.specs.Rows.{cut_line, row, notes_bytes}
 use Rattle.ra_explain_text.specs.Quotes.{act_words, line_words, with_label}
@@ -189,8 +190,8 @@ pass_text names e = pass_sentence e.report.labels ++ (undelivered_rows names e +
 -- the text of a violation, with these notes before the remedies
 abbrev pub violation_text : List (List ℕ) → Explanation → List Note → Violation → List ℕ
 violation_text names e notes v = sentence e.setup.kind v ++ (reported_row names v
-    ++ (expected_row names v ++ (notes_bytes notes
-    ++ (remedy_rows names e v ++ rejected_rows names e))))
+    ++ (expected_row names v ++ (opinion_row v.fault.label e.second_opinion ++ (notes_bytes notes
+    ++ (remedy_rows names e v ++ rejected_rows names e)))))
 
 -- the same of a violation or of a pass
 abbrev pub words_for : List (List ℕ) → Explanation → List Note → Option Violation → List ℕ

@@ -2,10 +2,14 @@
 //! no escape.
 ghost use Rattle.std.specs.Prelude.{◌≡◌, ◌++◌, true, OnOk};
 ghost use Rattle.ra_explain_text.specs.Json as json;
+ghost use Rattle.ra_explain_text.specs.Certificates.{certificate_text};
 ghost use Rattle.ra_explain_text.specs.Json.{object_of};
+ghost use Rattle.ra_explain_text.specs.Opinions.{opinion_text, list_text};
 
+use crate::json_certificate::put_certificate;
 use crate::json_conflict::put_conflict;
 use crate::layout::{put, put_size};
+use crate::opinion::put_opinion_members;
 use crate::quotes::{put_line_number, put_name};
 use crate::view::View;
 use ra_explain::{Change, Remedies, Undelivered, Violation};
@@ -56,16 +60,32 @@ fn put_pass(out: &mut Vec<u8>, labels: u32) -> Result<(), NoMemory>
     put_numbered(out, b"{\"answer\":\"yes\",\"labels\":", labels)
 }
 
-// Appends the violation, and the conflict if it is one by the order of a list.
+// Appends the violation, the conflict if it is one by the order of a list, and whether another order explains it.
 fn put_no(out: &mut Vec<u8>, view: &View<'_>, violation: &Violation) -> Result<(), NoMemory>
     ensures { OnOk result (out.new.items ≡ out.old.items
         ++ (json.violation_members view.now.names.now violation.now view.now.explanation.now.remedies
-        ++ json.conflict_text view.now.names.now view.now.explanation.now.places
-        view.now.explanation.now.conflict)) }
+        ++ (json.conflict_text view.now.names.now view.now.explanation.now.places view.now.explanation.now.conflict
+        ++ (opinion_text view.now.explanation.now.second_opinion
+        ++ (certificate_text view.now.explanation.now.second_opinion view.now.explanation.now.places
+        view.now.explanation.now.certificate.items ++ list_text view.now.explanation.now.one_list))))) }
 {
     let it = view.explanation;
     put_violation(out, view, violation)?;
-    put_conflict(out, view.names, &it.places, &it.conflict)
+    put_conflict(out, view.names, &it.places, &it.conflict)?;
+    put_opinion_members(out, &it.second_opinion)?;
+    put_certificate(out, &it.second_opinion, &it.places, &it.certificate)?;
+    put(out, list_member(it.one_list))
+}
+
+// Returns the member that says whether one order of the elements explains the labels, if that is known.
+fn list_member(one_list: Option<bool>) -> &'static str
+    ensures { result.now ≡ list_text one_list }
+{
+    match one_list {
+        Some(true) => ",\"one_list\":true",
+        Some(false) => ",\"one_list\":false",
+        None => "",
+    }
 }
 
 fn put_violation(out: &mut Vec<u8>, view: &View<'_>, violation: &Violation) -> Result<(), NoMemory>

@@ -1,6 +1,7 @@
 //! The members of the JSON object that only a violation by the order of a list has.
 ghost use Rattle.std.specs.Prelude.{◌≡◌, ◌++◌, OnOk, codes, decimal};
 ghost use Rattle.ra_explain_text.specs.Json as json;
+ghost use Rattle.ra_explain_text.specs.Numbers.{label_line};
 
 use crate::layout::put;
 use crate::quotes::put_line_number;
@@ -80,10 +81,14 @@ fn put_edge(out: &mut Vec<u8>, places: &Places, edge: Edge) -> Result<(), NoMemo
     put(out, "}")
 }
 
-// Appends the number of the label's line, or 0 if there is no such label.
-fn put_label_line(out: &mut Vec<u8>, places: &Places, label: u32) -> Result<(), NoMemory>
+/// Appends the member with the number of the label's line, or 0 if there is no such label.
+///
+/// # Errors
+///
+/// `NoMemory` if an allocation fails.
+pub fn put_label_line(out: &mut Vec<u8>, places: &Places, label: u32) -> Result<(), NoMemory>
     ensures { OnOk result (out.new.items
-        ≡ out.old.items ++ (codes ",\"line\":" ++ decimal (json.label_line places.now label))) }
+        ≡ out.old.items ++ (codes ",\"line\":" ++ decimal (label_line places.now label))) }
 {
     put(out, ",\"line\":")?;
     match places.at(label) {

@@ -8,14 +8,17 @@
 #![tactic(auto)]
 
 mod causes;
+mod certificate;
 mod conflict;
 mod document;
 mod elements;
 mod json;
+mod json_certificate;
 mod json_conflict;
 mod layout;
 mod list_elements;
 mod notes;
+mod opinion;
 mod page;
 mod pass;
 mod query;

@@ -56,6 +56,12 @@ pub enum Head {
     Removed,
     /// Two elements that two lines show the other way round.
     Pairs,
+    /// The first claim of those that show that no order explains the violation.
+    Because,
+    /// A further claim.
+    And,
+    /// Whether the labels of an RGA hold as those of a list.
+    OneList,
 }
 
 /// A line of a page: its head, and a text of printable bytes.
@@ -166,7 +172,10 @@ fn has_word(head: Head) -> bool
         | Head::So
         | Head::Holds
         | Head::Removed
-        | Head::Pairs => true,
+        | Head::Pairs
+        | Head::Because
+        | Head::And
+        | Head::OneList => true,
     }
 }
 
@@ -197,5 +206,8 @@ fn word_of(head: Head) -> &'static str
         Head::Holds => "one that holds",
         Head::Removed => "removed",
         Head::Pairs => "pairs",
+        Head::Because => "because",
+        Head::And => "and",
+        Head::OneList => "one list",
     }
 }

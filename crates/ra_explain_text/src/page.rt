@@ -4,9 +4,11 @@ ghost use Rattle.ra_explain_text.specs.Words as words;
 ghost use Rattle.ra_explain_text.specs.Words.{IsText, words_for};
 
 use crate::causes::{add_order, add_update};
+use crate::certificate::add_certificate;
 use crate::conflict::add_conflict;
 use crate::layout::{put, put_count, put_cut_line, put_row};
 use crate::notes::{Note, put_notes};
+use crate::opinion::put_opinion;
 use crate::pass::put_undelivered;
 use crate::query::add_query;
 use crate::quotes::{put_act, put_line};
@@ -25,9 +27,9 @@ use ra_labels::{Cause, Command, Kind, ListOp, NoMemory, Op};
 ///
 /// `NoMemory` if an allocation fails.
 pub fn put_words(out: &mut Vec<u8>, view: &View<'_>) -> Result<(), NoMemory>
-    // After success, the text of the explanation is appended: its sentence, the reported and the expected command, the
-    // remedies, what a pass leaves open, and the rejected lines, each as the explanation has it. The reasons of a
-    // violation are notes that begin with other words.
+    // After success, the text of the explanation is appended: its sentence, the reported and the expected command,
+    // whether another order explains it, the remedies, what a pass leaves open, and the rejected lines, each as the
+    // explanation has it. The reasons of a violation are notes that begin with other words.
     ensures { OnOk result ((bytes : List ℕ) × (out.new.items ≡ out.old.items ++ bytes)
         × IsText view.now.names.now view.now.explanation.now bytes) }
 {
@@ -59,6 +61,7 @@ fn put_violation(
     put_sentence(out, view.explanation.setup.kind, violation)?;
     put_reported(out, view.names, violation)?;
     put_expected(out, view.names, violation)?;
+    put_opinion(out, violation.fault.label, &view.explanation.second_opinion)?;
     put_notes(out, notes)?;
     put_remedies(out, view, violation)?;
     put_rejections(out, view)
@@ -212,6 +215,7 @@ fn add_reasons(notes: &mut Vec<Note>, view: &View<'_>) -> Result<(), NoMemory> {
     let Some(violation) = &view.explanation.violation else {
         return Ok(());
     };
+    add_certificate(notes, view)?;
     match violation.fault.cause {
         Cause::Query => add_query(notes, view, violation)?,
         Cause::Order => match &view.explanation.conflict {
