@@ -19,6 +19,8 @@ returns c =
         rejected = of.rejected;
         violation = of.violation;
         conflict = of.conflict;
+        second_opinion = of.second_opinion;
+        one_list = of.one_list;
         remedies = of.remedies;
       },
       subst (λ (old : List ℕ). PutsExplanation c.args.form e c.args.names.now old new) c.new-body.ensures.items
