@@ -35,6 +35,9 @@ const OWN_MEANINGS = {
     query: "it does not return exactly the values of the visible writes that no other visible write replaced",
   },
 };
+// By what `explain` says of other orders than that of the clocks.
+const ANOTHER_ORDER = "another order explains what was reported: suspect a clock, a tie-break or a delivery";
+const NO_ORDER = "no order explains what was reported, whatever the clocks are";
 // What may be wrong with a violation of an RGA.
 const OTHER_CLOCKS = "if the type does not order its elements by clocks of its own, check it as the kind list";
 const NOT_CAUSAL = "refused not-causal ";
@@ -108,12 +111,13 @@ export class FailureReport {
   }
 
   /**
-   * Describes the last command of the text and its reply. A violation is followed by the expected result and the
-   * changes of deliveries that would explain it, if there is an explanation.
+   * Describes the last command of the text and its reply. A violation is followed by the expected result, whether
+   * another order explains it, and the changes of deliveries that would explain it, if there is an explanation.
    */
   summarize(reply, explanation) {
     const operation = this.describe(this.commands.length - 1);
-    const hint = this.#translator.kind === "rga" && reply.startsWith("no ") ? `\n${OTHER_CLOCKS}` : "";
+    const mayBeList = this.#translator.kind === "rga" && reply.startsWith("no ") && explanation?.one_list !== false;
+    const hint = mayBeList ? `\n${OTHER_CLOCKS}` : "";
     return `${operation}: ${this.describeReply(reply)}${this.#formatExplanation(explanation)}${hint}`;
   }
 
@@ -125,8 +129,9 @@ export class FailureReport {
 
   #formatExplanation(explanation) {
     if (explanation === null) return "";
-    const { right: expected, would_be_right: changes, tried } = explanation;
+    const { right: expected, another_order: other, would_be_right: changes, tried } = explanation;
     const rows = changes.slice(0, SHOWN_CHANGES).map((it) => `explained if ${this.#describeChange(it)}`);
+    if (other !== undefined) rows.unshift(other ? ANOTHER_ORDER : NO_ORDER);
     if (expected !== null) rows.unshift(`expected: ${this.#describeLine(expected)}`);
     if (tried > 0 && changes.length === 0) rows.push(noneHelps(tried));
     return rows.map((row) => `\n${row}`).join("");

@@ -394,6 +394,19 @@ test("a missing delivery is suggested", needsExplanations, async () => {
   await recorder.stop();
 });
 
+test("whether another order explains a violation is reported", needsExplanations, async () => {
+  const another = "another order explains what was reported: suspect a clock, a tie-break or a delivery";
+  for (const [value, row] of [[7, another], [8, "no order explains what was reported, whatever the clocks are"]]) {
+    const recorder = new Recorder("register", ["Ann", "Bob"], { window: 1 });
+    await recorder.write("Ann", 7, [1, "Ann"], { message: "seven" });
+    await recorder.write("Bob", 9, [2, "Bob"]);
+    await recorder.deliver("Bob", "seven");
+    const { message } = await recorder.read("Bob", value).catch((fault) => fault);
+    assert.ok(message.includes(`\nexpected: 'Bob' reads 9\n${row}\n`), message);
+    await recorder.stop();
+  }
+});
+
 test("changes that do not help are counted", needsExplanations, async () => {
   const cases = [
     [["Bob", "Ann"], "the one change that was tried does not explain it"],

@@ -1,7 +1,9 @@
 // The shared types of Yjs, watched: random runs, faults of the network and of what is shown, and what is not reported.
 import assert from "node:assert/strict";
 import { spawnSync } from "node:child_process";
+import { readFileSync, readdirSync } from "node:fs";
 import { test } from "node:test";
+import { fileURLToPath } from "node:url";
 import { NotLinearizable, NotRepresentable } from "../index.js";
 import { watch } from "../yjs/index.js";
 import { Editors, NETWORKS, Y, synchronize } from "./yjs_editors.js";
@@ -471,4 +473,16 @@ test("content of documents that are not watched is rejected", async () => {
   assert.match(failed.message, /^bob shows x, the item \d+:0, which no watched document inserted: watch every/);
   assert.throws(() => watch([other]), /'a' has content: watch documents before their first change/);
   assert.throws(() => watch([{}]), /'a' is \{\}: expected a Y\.Doc/);
+});
+
+test("recorded lists are those of the example", () => {
+  const top = new URL("../../../", import.meta.url);
+  const pages = new URL("tests/explanations/pages/", top);
+  const script = fileURLToPath(new URL("examples/libraries/yjs_by_clocks.mjs", top));
+  const seeds = readdirSync(pages).flatMap((it) => /^orders_yjs_(\d+)\.rah$/.exec(it)?.[1] ?? []);
+  assert.equal(seeds.length, 6);
+  for (const seed of seeds) {
+    const { stdout, stderr } = spawnSync(process.execPath, [script, seed], { encoding: "utf8" });
+    assert.equal(stdout, readFileSync(new URL(`orders_yjs_${seed}.rah`, pages), "utf8"), stderr);
+  }
 });

@@ -334,6 +334,19 @@ class Failures(unittest.TestCase):
         recorder.stop()
 
     @unittest.skipUnless(program.EXPLAIN_PROGRAM.is_file(), "./ra_monitor explain is not built")
+    def test_whether_another_order_explains_a_violation_is_reported(self) -> None:
+        another = "another order explains what was reported: suspect a clock, a tie-break or a delivery"
+        for value, row in ((7, another), (8, "no order explains what was reported, whatever the clocks are")):
+            recorder = Recorder("register", ["Ann", "Bob"], window=1)
+            recorder.write("Ann", 7, (1, "Ann"), message="seven")
+            recorder.write("Bob", 9, (2, "Bob"))
+            recorder.deliver("Bob", "seven")
+            with self.assertRaises(NotLinearizable) as caught:
+                recorder.read("Bob", value)
+            self.assertIn(f"\nexpected: 'Bob' reads 9\n{row}\n", str(caught.exception))
+            recorder.stop()
+
+    @unittest.skipUnless(program.EXPLAIN_PROGRAM.is_file(), "./ra_monitor explain is not built")
     def test_changes_that_do_not_help_are_counted(self) -> None:
         for replicas, row in ((["Bob", "Ann"], "the one change that was tried does not explain it"),
                               (["Bob", "Ann", "Cid"], "none of the 2 changes that were tried explains it")):

@@ -37,6 +37,11 @@ OWN_MEANINGS = {
 # What may be wrong with a violation of an RGA.
 OTHER_CLOCKS = "if the type does not order its elements by clocks of its own, check it as the kind list"
 NOT_CAUSAL = "refused not-causal "
+# By what `explain` says of other orders than that of the clocks.
+OTHER_ORDERS = {
+    True: "another order explains what was reported: suspect a clock, a tie-break or a delivery",
+    False: "no order explains what was reported, whatever the clocks are",
+}
 
 
 class FailureReport:
@@ -102,11 +107,12 @@ class FailureReport:
     def summarize(self, reply: str, explanation: Optional[Dict[str, Any]]) -> str:
         """Describes the last command of the text and its reply.
 
-        A violation is followed by the expected result and the changes of deliveries that would explain it, if there is
-        an explanation.
+        A violation is followed by the expected result, whether another order explains it, and the changes of deliveries
+        that would explain it, if there is an explanation.
         """
         operation = self.describe(len(self.commands) - 1)
-        hint = f"\n{OTHER_CLOCKS}" if self._translator.kind == "rga" and reply.startswith("no ") else ""
+        is_list = explanation is None or explanation.get("one_list", True)
+        hint = f"\n{OTHER_CLOCKS}" if self._translator.kind == "rga" and reply.startswith("no ") and is_list else ""
         return f"{operation}: {self.describe_reply(reply)}{self._format_explanation(explanation)}{hint}"
 
     def expected_read(self, explanation: Optional[Dict[str, Any]]) -> Optional[Tuple[Any]]:
@@ -122,6 +128,8 @@ class FailureReport:
         rows = []
         if expected is not None:
             rows.append(f"expected: {self._translator.describe(expected, self._describe_label)}")
+        if "another_order" in explanation:
+            rows.append(OTHER_ORDERS[explanation["another_order"]])
         rows += [f"explained if {self._describe_change(it)}" for it in changes[:SHOWN_CHANGES]]
         if tried and not changes:
             rows.append(_none_helps(tried))

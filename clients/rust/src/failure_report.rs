@@ -17,6 +17,9 @@ pub(crate) const HEADER_LINES: usize = 2;
 const SHOWN_LINES: usize = 16;
 /// The largest number of suggested changes in a message.
 const SHOWN_CHANGES: usize = 5;
+/// What is said if some order explains a violation, and if none does.
+const ANOTHER_ORDER: &str = "another order explains what was reported: suspect a clock, a tie-break or a delivery";
+const NO_ORDER: &str = "no order explains what was reported, whatever the clocks are";
 
 /// Describes the commands of a history.
 pub(crate) trait Describe {
@@ -105,8 +108,8 @@ impl<'a> FailureReport<'a> {
 
     /// Describes the last command of the text and its reply.
     ///
-    /// A violation is followed by the expected result and the changes of deliveries that would explain it, if there is
-    /// an explanation.
+    /// A violation is followed by the expected result, whether another order explains it, and the changes of deliveries
+    /// that would explain it, if there is an explanation.
     pub(crate) fn summarize(&self, reply: &str, explanation: Option<&Json>) -> String {
         let details = explanation.map_or_else(String::new, |it| self.format_explanation(it));
         format!("{}: {}{details}", self.describe_last(), self.describe_reply(reply))
@@ -116,6 +119,11 @@ impl<'a> FailureReport<'a> {
         let mut rows = Vec::new();
         if let Some(line) = explanation.get("right").and_then(Json::as_text) {
             rows.push(format!("expected: {}", self.describe.line(line, self)));
+        }
+        match explanation.get("another_order").and_then(Json::as_bool) {
+            Some(true) => rows.push(String::from(ANOTHER_ORDER)),
+            Some(false) => rows.push(String::from(NO_ORDER)),
+            None => {}
         }
         let changes = explanation.get("would_be_right").and_then(Json::as_array).unwrap_or_default();
         let shown = changes.iter().take(SHOWN_CHANGES).filter_map(|it| self.describe_change(it));

@@ -56,6 +56,21 @@ fn a_violation_is_explained_in_the_users_names() {
 }
 
 #[test]
+fn whether_another_order_explains_a_violation_is_reported() {
+    let another = "another order explains what was reported: suspect a clock, a tie-break or a delivery";
+    for (value, row) in [(7, another), (8, "no order explains what was reported, whatever the clocks are")] {
+        let recorder: Recorder<&str, u64, &str> =
+            Recorder::with_options(Kind::Register, ["Ann", "Bob"], &each_reply()).unwrap();
+        recorder.update(&"Ann", &Operation::write(7, 1), "seven").unwrap();
+        recorder.update(&"Bob", &Operation::write(9, 2), "nine").unwrap();
+        recorder.deliver(&"Bob", &"seven").unwrap();
+        let error = recorder.read(&"Bob", &Value::Register(Some(value))).unwrap_err();
+        assert!(error.to_string().contains(&format!("\n{row}\n")), "{error}");
+        assert_eq!(recorder.close().unwrap_err().to_string(), error.to_string());
+    }
+}
+
+#[test]
 fn identifiers_are_those_of_the_type_or_those_observed() {
     let recorder: Recorder<&str, &str, u64, &str> = Recorder::new(Kind::OrSet, ["a", "b"]).unwrap();
     recorder.update(&"a", &Operation::add_as("x", "a1"), 1).unwrap();
