@@ -52,6 +52,7 @@ YJS_TESTS = (
     "a_lost_format_and_a_stale_one_are_found",
     "a_watcher_that_is_left_open_fails_the_process",
     "content_of_documents_that_are_not_watched_is_rejected",
+    "recorded_lists_are_those_of_the_example",
 )
 JAVASCRIPT_ALONE = {
     **{("yjs", it): "Yjs is a library of JavaScript" for it in YJS_TESTS},

@@ -1,6 +1,9 @@
 """A history with a regular end, and each fact of its explanation as the model (tests/support/model.py) has it."""
+from functools import cached_property
+
 import model
 from assertions import require
+from explanation_orders import is_one_list, opinion_on, reported_labels
 
 # The most changes of one sort that are tried of a list, and the most commands that are replayed for those of one sort.
 MOST_TRIED, MOST_STEPS = 256, 1_048_576
@@ -23,7 +26,7 @@ class Case:
     """A text with a regular end, as the model answers it."""
 
     def __init__(self, text):
-        self.replies = []
+        self.replies, self.text = [], text
         self.monitor = model.run(text, self.replies)
         self.lines = text.decode().splitlines()
         self.head, self.fault = self.lines[:2], self.monitor.fault
@@ -36,6 +39,8 @@ class Case:
         self.tried = None
         # The program's own cycle and line that holds, once they are judged (explanation_lists.py).
         self.cycle, self.held = [], None
+        # And its own claims by which no order explains the violation (explanation_certificates.py).
+        self.claims = []
 
     # Lines.
 
@@ -102,6 +107,19 @@ class Case:
 
     def lacked_by_violating(self):
         return self.lacked(self.violating.replica)
+
+    @cached_property
+    def reported(self):
+        """All labels that the text reports, whatever the monitor answers, and the number of the line of each."""
+        return reported_labels(self.text)
+
+    @cached_property
+    def opinion(self):
+        return opinion_on(self)
+
+    @cached_property
+    def one_list(self):
+        return is_one_list(self)
 
     def arrival(self, name, label):
         """The place of the accepted delivery of this label to the replica, or None."""

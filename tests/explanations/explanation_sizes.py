@@ -20,11 +20,16 @@ from program import CHECK, EXPLAIN, Program, costs
 LABELS, DELIVERIES, OF_EACH = 100_000, 500_000, 300_000
 # How many times the time and the memory of its check an explanation may take; one of this number of turns has to.
 TIMES, TIMES_MEMORY, TURNS = 4, 1.5, 5
+# The same if it searches how far another order explains the labels: it asks about a few prefixes, and not about one for
+# each bit of their number.
+TIMES_SEARCH = 7
 # What no read of these histories answers.
 WRONG = {"counter": "-77777", "register": "none", "lwwset": "-", "orset": "-", "rga": "-"}
 # The update with this number, behind the one before.
 UPDATES = {**UPDATES, "rga": "after {1} {0} @{0}"}
 STAMPED = ("register", "lwwset", "rga")
+# An update with this clock, by a replica that has the first two updates.
+CLOCKED = {"register": "write 7 @{}", "lwwset": "add 7 @{}", "rga": "after 2 900000 @{}"}
 
 
 # How many changes are tried.
@@ -122,14 +127,16 @@ def look_at_many_that_lack(program):
 # What it costs.
 
 
-def require_soon(program, text):
-    """The object of a long history, which has to be made soon, in one of some turns."""
+def require_soon(program, text, sound=None, times=TIMES):
+    """The object of a long history with a violation, which has to be made soon, in one of some turns: within so many
+    times the time of a check of the same text, or of another one that holds."""
     check = Program(CHECK)
+    checked = (text, 1) if sound is None else (sound, 0)
     for _ in range(TURNS):
-        _, _, status = check(["check"], text)
+        _, _, status = check(["check"], checked[0])
         wrote, said, explained = program(["explain", "--json"], text)
-        require((said, explained) == (b"", status), said, explained)
-        if program.seconds <= TIMES * check.seconds:
+        require((said, explained, status) == (b"", 1, checked[1]), said, explained, status)
+        if program.seconds <= times * check.seconds:
             return json.loads(wrote)
     raise AssertionError("too slow", program.seconds, check.seconds)
 
@@ -176,6 +183,28 @@ def look_at_costs(kind, last, says):
     require(explained <= TIMES_MEMORY * checked, kind, "takes too much memory", explained, checked)
 
 
+def of_two_writers(kind, clock, late=None):
+    """The text of a long history in which the second replica has one update with this clock, and the first one reads
+    what no order explains behind the update with this number, if any."""
+    made = History(kind, "ab")
+    made.gets("b", [made.does("a", UPDATES[kind].format(number, number - 1)) for number in (1, 2)])
+    made.does("b", CLOCKED[kind].format(clock))
+    for number in range(3, LABELS):
+        made.does("a", UPDATES[kind].format(number, number - 1))
+        if number == late:
+            made.does("a", f"read {WRONG[kind]}")
+    return made.text()
+
+
+def look_at_search(program, kind):
+    """A violation by clocks at the beginning, and much later a read that no order explains: it is found by few
+    questions. The cost is compared with a check of the same labels that holds."""
+    late = LABELS * 9 // 10
+    told = require_soon(program, of_two_writers(kind, 1, late), of_two_writers(kind, 3), TIMES_SEARCH)
+    found = told["another_order"], told["explained_up_to"], told["unexplained_line"]
+    require(found == (True, late, late + 6), kind, found)
+
+
 def look_at_full(program):
     """One command more than there may be."""
     text = b"RAH 1 counter\nreplicas a\n" + b"verdict\n" * 1_048_576 + b"a inc\n"
@@ -191,6 +220,8 @@ def looks(program):
     """What is called how, and looked at: a function and what it is given."""
     for kind in KINDS:
         yield f"a long history of {kind}", look_at_long, program, kind
+    for kind in STAMPED:
+        yield f"how far another order explains a {kind}", look_at_search, program, kind
     yield "a full text", look_at_full, program
     yield "a late report", look_at_late_report, program
     yield "many that lack", look_at_many_that_lack, program

@@ -3,9 +3,13 @@
 Only the sentences are the program's own: line numbers, labels, answers, counts and the number of tries are worked out
 here from the text, so that each fact that a page states is compared.
 """
+import itertools
+
 import model
 from explanation_case import element_of
 from explanation_lists import is_by_order, rows_of_order, rows_of_query, rows_of_update
+from explanation_certificates import rows_of_claims
+from explanation_orders import words_of_list, words_of_orders
 from explanation_unordered import EXPECTED, rows_of_read
 from explanation_unordered import REASONS as REASONS_OF_READS
 
@@ -175,7 +179,14 @@ def words_of_violation(case):
     yield ""
     yield headed("reported", act(case.said(case.place)))
     sorts = {"query": words_of_query, "order": words_of_order, "update": words_of_update}
-    yield from words_of_a_list(case) if case.monitor.kind == "list" else sorts[case.cause](case)
+    reasons = iter(words_of_a_list(case) if case.monitor.kind == "list" else sorts[case.cause](case))
+    if case.opinion:
+        yield from itertools.islice(reasons, 1 if case.cause == "query" else 0)
+        yield headed("other orders", words_of_orders(case, case.opinion))
+        yield from (headed(*row) for row in rows_of_claims(case))
+        if case.one_list is not None:
+            yield headed("one list", words_of_list(case))
+    yield from reasons
     yield from words_of_what_it_sees(case)
     yield from words_of_remedies(case)
     yield from words_of_rejections(case)

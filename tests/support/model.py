@@ -195,11 +195,11 @@ def read(numbered, reader, *more):
         raise Fault(f"line {number}: syntax") from None
 
 
-def run(text, replies):
+def run(text, replies, judge=cause_of):
     """The monitor as the text leaves it. The replies are put in as they are made, so that they stand before a fault."""
     lines = lines_of(text)
     form, kind = read(next(lines), form_and_kind_of)
-    monitor = Monitor(kind, read(next(lines), names_of, form))
+    monitor = Monitor(kind, read(next(lines), names_of, form), judge)
     for number, line in lines:
         command = read((number, line), command_of, form, kind)
         if monitor.calls == MOST_COMMANDS:
