@@ -128,8 +128,8 @@ def look_at_many_that_lack(program):
 
 
 def require_soon(program, text, sound=None, times=TIMES):
-    """The object of a long history with a violation, which has to be made soon, in one of some turns: within so many
-    times the time of a check of the same text, or of another one that holds."""
+    """The object of a long history with a violation. One of TURNS runs has to take at most `times` the time of a check of
+    the same text, or of `sound`, which holds."""
     check = Program(CHECK)
     checked = (text, 1) if sound is None else (sound, 0)
     for _ in range(TURNS):
