@@ -14,3 +14,4 @@ pub mod Solutions
 pub mod NamedBelow
 pub mod TheoremIndex
 pub mod HeldLabels
+pub mod PositionLists

@@ -1,4 +1,6 @@
 pub mod Conditions
+pub mod Positions
 pub mod Placing
 pub mod Solved
 pub mod Reasons
+pub mod Certificates

@@ -93,8 +93,16 @@ fn held_of(alloc: Global, condition: &Condition, label: u32) -> Result<Held, NoM
     })
 }
 
-// Returns `true` if each label that a reason names as a later one has a reason itself.
-fn are_closed(alloc: Global, count: u32, reasons: &[Held]) -> Result<bool, NoMemory>
+/// Returns `true` if each label that a reason names as a later one has a reason itself.
+///
+/// # Errors
+///
+/// `NoMemory` if allocation fails.
+///
+/// # Complexity
+///
+/// O(n), with `n` the count and the length of the reasons.
+pub fn are_closed(alloc: Global, count: u32, reasons: &[Held]) -> Result<bool, NoMemory>
     ensures { IfOk result (λ closed. IsTrue closed → IsClosed reasons.now) }
 {
     let marks = marks_of(alloc, count, reasons)?;
