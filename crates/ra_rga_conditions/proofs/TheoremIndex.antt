@@ -5,4 +5,4 @@ pub use Rattle.ra_rga_conditions.proofs.FinalSets.{stuck_final as stuck_set_is_f
 pub use Rattle.ra_rga_conditions.proofs.ExplainedReads.{order_explains}
 pub use Rattle.ra_rga_conditions.proofs.PlainConditions.{plain_hold as linearization_meets_plain_conditions, some_order_iff}
 pub use Rattle.ra_rga_conditions.proofs.EarlierRecords.{none_later as no_order_persists}
-pub use Rattle.ra_rga_conditions.proofs.LabelOrders.{label_order_explains}
+pub use Rattle.ra_rga_conditions.proofs.LabelOrders.{label_order_explains, label_order_exactly as label_order_iff}

@@ -63,6 +63,14 @@ pub fn label_order_explains()
         → OrderExplains Rga records order }
 {}
 
+/// Theorem: so an order explains the records exactly if the plain conditions hold, it has each label once, after the
+/// updates that it sees and the earlier labels of its replica, and it keeps the precedence.
+pub fn label_order_iff()
+    ensures { (records : Records) (order : List ℕ) → EachLabelIsOfKind Rga records → OrderExplains Rga records order
+        ↔ (MeetsPlainConditions records × IsOrderOfLabels records order
+        × ((m n : ℕ) → MustStandBefore records m n → IsBefore order m n)) }
+{}
+
 /// Theorem: so some sequence explains the records exactly if the plain conditions hold and some order of the updates
 /// keeps the precedence.
 pub fn some_order_iff()

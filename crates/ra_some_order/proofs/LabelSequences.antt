@@ -28,18 +28,18 @@ use Rattle.ra_list_order.proofs.Adds.{once_moved}
 use Rattle.ra_list_order.proofs.Befores.{before_across}
 use Rattle.ra_list_order.proofs.Cycles.{AreNew}
 use Rattle.ra_list_model.proofs.OnceListed.{once_from_new}
-use Rattle.ra_theorems.proofs.TheoremIndex.{label_at_each_number-there, label_at_each_number-found, extends_iff_stands_before-stands, must_precede_irreflexive, sees_earlier_updates-updates, delivered_are_updates-there}
+use Rattle.ra_theorems.proofs.TheoremIndex.{label_at_each_number-there, label_at_each_number-found, extends_iff_stands_before-stands, must_precede_irreflexive, sees_earlier_updates-updates, delivered_are_updates-there, linearization_by_visibility}
 use Rattle.ra_precedence.specs.Conditions.{MeetsAll, HasEachBelow}
 use Rattle.ra_some_order.specs.UpdateConditions.{conditions_of}
 use Rattle.ra_some_order.specs.PlainConditions.{MeetsPlainConditions}
 use Rattle.ra_some_order.specs.SomeOrder.{EachLabelIsOfKind, is_decided_by_conditions, has_whole_labels, update_order}
-use Rattle.ra_some_order.specs.LabelOrders.{IsOrderOfLabels, label_order}
+use Rattle.ra_some_order.specs.LabelOrders.{IsOrderOfLabels, OrderExplains, label_order}
 use Rattle.ra_some_order.proofs.UpdateOrders.{is_update_part, found_there, mapped_cond, order_of_updates}
 use Rattle.ra_some_order.proofs.Selections.{AreOrdered, in_order_of_keys}
 use Rattle.ra_some_order.proofs.PartKinds.{fitting_part}
 use Rattle.ra_some_order.proofs.PrecedingParts.{Seen, Earlier, Halves, must_cases, seen_must, earlier_must}
 use Rattle.ra_some_order.proofs.SequencedQueries.{extends_if_respected, sequenced}
-use Rattle.ra_some_order.proofs.Linearizations.{updates_ordered, updates_extended, conditions_met}
+use Rattle.ra_some_order.proofs.Linearizations.{plain_met, updates_ordered, updates_extended, conditions_met}
 use Rattle.ra_some_order.proofs.LabelOrders.{met_in}
 use Rattle.ra_some_order.proofs.Explanations.{linearizes}
 
@@ -341,3 +341,38 @@ order_of_linearization kind records sequence decided of_kind by_sight =
                 (sym order_is ∙ updates_are kind whole records of_kind queried same) before),
           ),
     )
+
+-- the labels of a linearization are in such an order, and its updates are in the same one
+pub linearized_labels : (kind : Kind) (records : Records) (sequence : List Part) → has_whole_labels kind ≡ true
+    → EachLabelIsOfKind kind records → IsRaLinearization kind records sequence
+    → IsOrderOfLabels records (label_order sequence)
+linearized_labels kind records sequence whole of_kind linearizes =
+    order_of_labels kind whole records of_kind sequence linearizes.each_part_once linearizes.visibility
+
+pub linearized_updates : (kind : Kind) (records : Records) (sequence : List Part) → has_whole_labels kind ≡ true
+    → EachLabelIsOfKind kind records → IsRaLinearization kind records sequence
+    → (a b : ℕ) → IsBefore (update_order sequence) a b → IsBefore (label_order sequence) a b
+linearized_updates kind records sequence whole of_kind linearizes a b before =
+    before_unfiltered (is_update_at records) (label_order sequence) a b
+    (subst (λ ns. IsBefore ns a b) (updates_are kind whole records of_kind sequence linearizes.each_part_once) before)
+
+-- so an order explains the records exactly if it is one of the labels that meets the conditions
+pub label_order_exactly : (kind : Kind) (records : Records) (order : List ℕ) → is_decided_by_conditions kind ≡ true
+    → EachLabelIsOfKind kind records → OrderExplains kind records order
+    ↔ (MeetsPlainConditions records × IsOrderOfLabels records order × MeetsAll order (conditions_of records))
+label_order_exactly kind records order decided of_kind = (
+  (λ (each, (sequence, linearizes, order_is)).
+      let whole = decided_whole kind decided in
+      let by_sight = linearization_by_visibility kind records sequence linearizes in (
+        plain_met kind records sequence decided by_sight,
+        subst (IsOrderOfLabels records) order_is (linearized_labels kind records sequence whole of_kind linearizes),
+        λ condition among b first.
+            let (c, second, before) = conditions_met kind records sequence decided by_sight condition among b first in (
+              c,
+              second,
+              subst (λ ns. IsBefore ns b c) order_is
+                  (linearized_updates kind records sequence whole of_kind linearizes b c before),
+            ),
+      )),
+  (λ (plain, is, meets). (is.each, label_order_explaining kind records order decided of_kind plain is meets)),
+)

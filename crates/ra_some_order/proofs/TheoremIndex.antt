@@ -20,3 +20,4 @@ pub use Rattle.ra_some_order.proofs.KeptExplanations.{explained_with_delivery as
 pub use Rattle.ra_some_order.proofs.KeptExplanations.{explained_at_update as updates_stay_explained-fault}
 pub use Rattle.ra_some_order.proofs.LabelSequences.{label_order_explaining as label_order_explains, order_of_linearization as linearization_orders_labels, label_order_sequenced as label_order_has_sequence}
 pub use Rattle.ra_some_order.proofs.NarrowedConditions.{narrow_exactly as narrow_condition_requires_as_much}
+pub use Rattle.ra_some_order.proofs.LabelSequences.{linearized_labels as linearization_has_label_order-order, linearized_updates as linearization_has_label_order-updates, label_order_exactly as label_order_iff}

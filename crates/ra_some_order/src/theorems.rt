@@ -6,6 +6,7 @@ ghost use Rattle.ra_labels.specs.declared.command.Command.TheVariants.{Deliver, 
 ghost use Rattle.ra_labels.specs.declared.operation.Op.{Op};
 ghost use Rattle.ra_labels.specs.declared.label.Label.{Label};
 ghost use Rattle.ra_labels.specs.declared.reply.Fault.{Fault};
+ghost use Rattle.ra_labels.specs.Edges.{IsBefore};
 ghost use Rattle.ra_labels.specs.Records.{Records, label_count, labels_of, records_to};
 ghost use Rattle.ra_labels.specs.Visibility.{is_update, is_update_at};
 ghost use Rattle.ra_labels.specs.HistorySoFar.{NextOperation, operate, label_of};
@@ -20,7 +21,7 @@ ghost use Rattle.ra_some_order.specs.VisibleUpdates.{visible_labels, numbers_whe
 ghost use Rattle.ra_some_order.specs.UpdateConditions.{visibility_conditions, read_conditions, conditions_of, conditions_of_label, IsOrderOfUpdates};
 ghost use Rattle.ra_some_order.specs.PlainConditions.{IsPossibleRead, MeetsPlainConditions};
 ghost use Rattle.ra_some_order.specs.Covering.{anything, either, Cover, ExtendsVisibility};
-ghost use Rattle.ra_some_order.specs.LabelOrders.{IsOrderOfLabels, label_order, Narrows};
+ghost use Rattle.ra_some_order.specs.LabelOrders.{IsOrderOfLabels, OrderExplains, label_order, Narrows};
 ghost use Rattle.ra_some_order.specs.SomeOrder.{SomeOrderExplains, EachLabelIsOfKind, is_decided_by_conditions, has_whole_labels, update_order};
 
 /// Theorem: if a sequence linearizes the records, even by visibility alone, the plain conditions hold, and its updates
@@ -184,6 +185,25 @@ pub fn label_order_explains()
         → EachLabelIsOfKind kind records → MeetsPlainConditions records → IsOrderOfLabels records order
         → MeetsAll order (conditions_of records)
         → (sequence : List Part) × IsRaLinearization kind records sequence × (label_order sequence ≡ order) }
+{}
+
+/// Theorem: conversely, if all labels are of a kind whose labels are single parts, the labels of an RA-linearization
+/// are in such an order, which also keeps the order of its updates.
+pub fn linearization_has_label_order()
+    ensures order { (kind : Kind) (records : Records) (sequence : List Part) → has_whole_labels kind ≡ true
+        → EachLabelIsOfKind kind records → IsRaLinearization kind records sequence
+        → IsOrderOfLabels records (label_order sequence) }
+    ensures updates { (kind : Kind) (records : Records) (sequence : List Part) → has_whole_labels kind ≡ true
+        → EachLabelIsOfKind kind records → IsRaLinearization kind records sequence
+        → (a b : ℕ) → IsBefore (update_order sequence) a b → IsBefore (label_order sequence) a b }
+{}
+
+/// Theorem: so an order explains the records exactly if the plain conditions hold, it has each label once, after the
+/// updates that it sees and the earlier labels of its replica, and it meets the conditions.
+pub fn label_order_iff()
+    ensures { (kind : Kind) (records : Records) (order : List ℕ) → is_decided_by_conditions kind ≡ true
+        → EachLabelIsOfKind kind records → OrderExplains kind records order
+        ↔ (MeetsPlainConditions records × IsOrderOfLabels records order × MeetsAll order (conditions_of records)) }
 {}
 
 /// Theorem: if a sequence linearizes the records, even by visibility alone, there is such an order of all labels.
