@@ -1,16 +1,14 @@
 -- Lemmas on what the conditions of all labels lead to: an order that explains the records, or that no sequence does.
-use Rattle.std.proofs.Common.{◌≡◌, ℕ, zero, suc, ◌+◌, ◌<◌, true, List, [], ◌∷◌, ◌++◌, Option, Some, None, refl, sym, ap, ◌∙◌, subst, inl, inr, arith}
+use Rattle.std.proofs.Common.{◌≡◌, ℕ, ◌+◌, ◌<◌, true, List, [], ◌∷◌, ◌++◌, Option, Some, None, refl, sym, ap, ◌∙◌, subst, inl, inr, arith}
 use Rattle.std.specs.Prelude.{◌==◌, slice_get, option_map, Contains}
-use Rattle.std.proofs.lemmas.Bool.{cases_eq, eqb-true}
+use Rattle.std.proofs.lemmas.Bool.{eqb-true}
 use Rattle.ra_labels.specs.declared.kind.Kind.{Kind}
 use Rattle.ra_labels.specs.declared.operation.Op.{Op}
 use Rattle.ra_labels.specs.declared.operation.Op.TheVariants as op
 use Rattle.ra_labels.specs.declared.label.Label.{Label}
-use Rattle.ra_labels.specs.Edges.{IsBefore}
 use Rattle.ra_labels.specs.Records.{Records, label_count, labels_of, label_at}
 use Rattle.ra_labels.specs.Places.{issuer_of}
 use Rattle.ra_labels.proofs.Members.{none_there, at_head, reached}
-use Rattle.ra_list_order.proofs.Cycles.{AreNew, transitive, new_from_once}
 use Rattle.ra_theorems.specs.AnyOrder.{NoneLinearizes}
 use Rattle.ra_theorems.proofs.TheoremIndex.{label_at_each_number-there, label_at_each_number-found, delivered_are_updates-there}
 use Rattle.ra_precedence.specs.Conditions.{Condition, MeetsAll, IsStuck, HasEachBelow}
@@ -20,7 +18,7 @@ use Rattle.ra_some_order.specs.UpdateConditions.{value_condition, element_condit
 use Rattle.ra_some_order.specs.PlainConditions.{IsPossibleRead, MeetsPlainConditions}
 use Rattle.ra_some_order.specs.SomeOrder.{EachLabelIsOfKind, is_decided_by_conditions}
 use Rattle.ra_some_order.specs.LabelOrders.{IsOrderOfLabels, OrderExplains, Narrows}
-use Rattle.ra_some_order.proofs.TheoremIndex.{conditions_iff, label_order_explains, linearization_orders_labels, narrow_condition_requires_as_much, stuck_set_is_final-plain}
+use Rattle.ra_some_order.proofs.TheoremIndex.{conditions_iff, label_order_explains, label_order_iff, linearization_orders_labels, narrow_condition_requires_as_much, stuck_set_is_final-plain}
 use Rattle.ra_some_order.proofs.LabelSequences.{label_below}
 use Rattle.ra_some_order.proofs.UpdateOrders.{found_there}
 use Rattle.ra_visibility.specs.Newest.{AreNewest}
@@ -30,6 +28,7 @@ use Rattle.ra_any_order.specs.Requirements.{IsInTurn, IsOverwritten, IsRefused, 
 use Rattle.ra_any_order.proofs.NarrowSides.{AreListed}
 use Rattle.ra_any_order.proofs.LabelConditions.{full_there, required_met, one_more}
 use Rattle.ra_any_order.proofs.ElementReads.{named_changed}
+use Rattle.ra_any_order.proofs.TurnOrders.{turn_order}
 
 -- ---- label by label
 pub none_yet : (records : Records) → AreConditionsBelow records 0 []
@@ -77,41 +76,12 @@ module _ (records : Records) (operations : List Op) (listed : AreListed records 
 module _ (records : Records) (conditions : List Condition)
     (are : AreConditionsBelow records (label_count records) conditions) where
   module _ (order : List ℕ) (each : HasEachBelow (label_count records) order) (meets : MeetsAll order conditions) where
-    new : AreNew order
-    new = new_from_once order each.once
-
     turn : (n : ℕ) → n < label_count records → IsInTurn records order n
     turn n below = are.in_turn n below order meets
 
-    -- the earlier labels of a replica stand before the later ones
-    replica_before : (bound m n : ℕ) → n < bound → m < n → n < label_count records
-        → issuer_of records m ≡ issuer_of records n → IsBefore order m n
-    replica_before zero m n within less below same = absurd (omega (arith, within))
-    replica_before (suc bound) m n within less below same =
-        let (k, later, earlier, issuer, before) = (turn n below).previous m less same in
-        elim (cases_eq m k) [
-          | inl is ↦ subst (λ j. IsBefore order j n) (sym is) before
-          | inr other ↦
-              transitive order m k n new
-              (replica_before bound m k (omega (arith, within, earlier)) (omega (arith, later, other))
-              (omega (arith, earlier, below)) issuer) before
-        ]
-
     pub order_of_labels : IsOrderOfLabels records order
-    order_of_labels = record {
-      each = each;
-      seen =
-          λ n m below sees_it.
-          let (k, later, earlier, issuer, before) = (turn n below).seen m sees_it in
-          elim (cases_eq m k) [
-            | inl is ↦ subst (λ j. IsBefore order j n) (sym is) before
-            | inr other ↦
-                transitive order m k n new
-                (replica_before (k + 1) m k (omega arith) (omega (arith, later, other)) (omega (arith, earlier, below))
-                issuer) before
-          ];
-      replicas = λ m n less below same. replica_before (n + 1) m n (omega arith) less below same;
-    }
+    order_of_labels = turn_order records order each (λ n below.
+        let its = turn n below in record { seen = its.seen; previous = its.previous })
 
     pub order_meets : MeetsAll order (conditions_of records)
     order_meets = (conditions_iff records order).1 (
@@ -134,6 +104,12 @@ module _ (records : Records) (conditions : List Condition)
     order_explains order each meets =
         let is = order_of_labels order each meets in
         (each, label_order_explains kind records order decided of_kind plain is (order_meets order each meets))
+
+    -- and an order that explains the records meets the conditions
+    pub explaining_meets : (order : List ℕ) → OrderExplains kind records order → MeetsAll order conditions
+    explaining_meets order explains =
+        let (possible, is, meets) = (label_order_iff kind records order decided of_kind).0 explains in
+        λ condition among. required_met records condition (are.required condition among) order is meets
 
     pub stuck_refutes : (set : List ℕ) → IsStuck conditions set
         → ((b : ℕ) → Contains set b → b < label_count records) → NoneLinearizes kind records

@@ -12,3 +12,4 @@ pub mod AddedElements
 pub mod SetReads
 pub mod Conclusions
 pub mod ReadOutcomes
+pub mod TurnOrders

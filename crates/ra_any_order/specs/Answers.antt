@@ -1,5 +1,5 @@
 -- What the answer states.
-use Rattle.std.specs.Prelude.{ℕ, List}
+use Rattle.std.specs.Prelude.{List}
 use Rattle.ra_labels.specs.declared.kind.Kind.{Kind}
 use Rattle.ra_labels.specs.Records.{Records}
 use Rattle.ra_theorems.specs.AnyOrder.{NoneLinearizes}

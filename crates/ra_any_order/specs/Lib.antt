@@ -5,6 +5,7 @@ pub mod Changes
 pub mod Elements
 pub mod Finding
 pub mod Requirements
+pub mod LabelOrder
 pub mod Outcomes
 pub mod Answers
 pub mod Found

@@ -7,13 +7,15 @@
 //! (`ra_some_order`).
 //!
 //! Contract for the crates above: `some_order` returns such an order, or a refutation by which no sequence at all is an
-//! RA-linearization (`specs/Answers`).
+//! RA-linearization (`specs/Answers`). `linearizes` and `refutes` check an order and a refutation.
 #![tactic(auto)]
 
 mod answer;
 mod changes;
+mod checks;
 mod conditions;
 mod elements;
+mod label_order;
 mod operations;
 mod ordering;
 mod outcome;
@@ -23,4 +25,6 @@ mod values;
 mod views;
 
 pub use answer::{AnyOrder, Refutation};
+pub use checks::{linearizes, refutes};
+pub use label_order::is_order_of_labels;
 pub use ordering::some_order;
