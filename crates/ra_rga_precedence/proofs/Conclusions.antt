@@ -158,3 +158,10 @@ order_explaining records of_kind plain conditions enough order labels each meets
     label_order_explains records labels of_kind plain is (λ m n first.
     let (m_updates, n_updates) = precedes_updates records m n first in
     kept m n m_updates n_updates (keeps m n first))
+
+-- an order that keeps the precedence meets the conditions that are demanded
+pub keeps_meets : (records : Records) (conditions : List Condition) → AreDemanded records conditions
+    → (order : List ℕ) → ((m n : ℕ) → MustStandBefore records m n → IsBefore order m n) → MeetsAll order conditions
+keeps_meets records conditions demanded order keeps condition among b first =
+    let (c, only, precedes) = demanded condition b among first in
+    (c, subst (λ cs. Contains cs c) (sym only) (at_head c [] c refl), keeps b c precedes)

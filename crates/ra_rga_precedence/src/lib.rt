@@ -8,10 +8,11 @@
 //!
 //! Contract for the crates above: `demands_of` returns such conditions, or a refutation by which no sequence at all is
 //! an RA-linearization; `some_order` returns an order in which the parts of all labels are one, or a refutation
-//! (`specs/Answers`).
+//! (`specs/Answers`). `meets_demands` and `refutes` check an order and a refutation.
 #![tactic(auto)]
 
 mod answer;
+mod checks;
 mod complete;
 mod demands;
 mod inserters;
@@ -29,5 +30,6 @@ mod update_conditions;
 mod view;
 
 pub use answer::{AnyOrder, Refutation};
+pub use checks::{meets_demands, refutes};
 pub use complete::complete_counts;
 pub use ordering::{Demands, demands_of, some_order};
