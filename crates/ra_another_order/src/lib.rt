@@ -8,9 +8,11 @@
 //! Contract for the crates above: `another_order` returns an order that explains the labels, or a reason why no
 //! sequence at all is an RA-linearization (`specs/Answers`). `second_opinion` returns this answer about the labels up
 //! to a violation, and the longest prefix of all labels that some order explains (`specs/Opinions`, `specs/Extent`).
+//! `linearizes` and `refutes` check an order and a reason.
 #![tactic(auto)]
 
 mod answer;
+mod checks;
 mod ends;
 mod extent;
 mod known;
@@ -22,6 +24,7 @@ mod reasons;
 mod search;
 
 pub use answer::{Answer, Reason};
+pub use checks::{linearizes, refutes};
 pub use extent::Extent;
 pub use opinion::{SecondOpinion, second_opinion};
 pub use question::another_order;
