@@ -1,6 +1,6 @@
 //! Tests of `ra_any_order`: worked examples, which answers they get, and calls after a failed allocation.
 
-use ra_any_order::{AnyOrder, Refutation, some_order};
+use ra_any_order::{AnyOrder, Refutation, linearizes, refutes, some_order};
 use ra_labels::{Elements, NoMemory, Op};
 use ra_precedence::StuckSet;
 use ra_visibility::{MOST_LABELS, Tracker};
@@ -48,9 +48,30 @@ fn answer_to(
             }
         }
     }
-    match some_order(alloc, &tracker, &operations) {
-        Ok(answer) => Ok(plain(rt, answer)),
-        Err(_) => Ok(plain(rt, some_order(alloc, &tracker, &operations)?)),
+    let answer = match some_order(alloc, &tracker, &operations) {
+        Ok(answer) => answer,
+        Err(_) => some_order(alloc, &tracker, &operations)?,
+    };
+    assert!(rt; is_shown(alloc, &tracker, &operations, &answer)?);
+    Ok(plain(rt, answer))
+}
+
+// Returns whether a check accepts the answer, from a second call if an allocation fails in the first one.
+fn is_shown(
+    alloc: Global,
+    tracker: &Tracker,
+    operations: &[&Op],
+    answer: &AnyOrder,
+) -> Result<bool, NoMemory> {
+    match answer {
+        AnyOrder::Exists(order) => match linearizes(alloc, tracker, operations, order) {
+            Ok(is) => Ok(is),
+            Err(_) => linearizes(alloc, tracker, operations, order),
+        },
+        AnyOrder::NoneExists(reason) => match refutes(alloc, tracker, operations, reason) {
+            Ok(is) => Ok(is),
+            Err(_) => refutes(alloc, tracker, operations, reason),
+        },
     }
 }
 

@@ -1,8 +1,9 @@
 //! Tests of `ra_rga_precedence`: worked examples, which answers they get, and calls after a failed allocation.
 
+use ra_any_order::is_order_of_labels;
 use ra_labels::{Elements, NoMemory, Op};
 use ra_precedence::StuckSet;
-use ra_rga_precedence::{AnyOrder, Refutation, some_order};
+use ra_rga_precedence::{AnyOrder, Refutation, meets_demands, refutes, some_order};
 use ra_visibility::{MOST_LABELS, Tracker};
 use std::alloc::Global;
 use std::process::Abort;
@@ -70,10 +71,43 @@ fn answer_to(
     for op in &performed {
         operations.push(op)?;
     }
-    match some_order(alloc, &tracker, &operations) {
-        Ok(answer) => Ok(plain(rt, answer)),
-        Err(_) => Ok(plain(rt, some_order(alloc, &tracker, &operations)?)),
+    let answer = match some_order(alloc, &tracker, &operations) {
+        Ok(answer) => answer,
+        Err(_) => some_order(alloc, &tracker, &operations)?,
+    };
+    assert!(rt; is_shown(alloc, &tracker, &operations, &answer)?);
+    Ok(plain(rt, answer))
+}
+
+// Returns whether the checks accept the answer, from a second call if an allocation fails in the first one.
+fn is_shown(
+    alloc: Global,
+    tracker: &Tracker,
+    operations: &[&Op],
+    answer: &AnyOrder,
+) -> Result<bool, NoMemory> {
+    match answer {
+        AnyOrder::Exists(order) => match explains(alloc, tracker, operations, order) {
+            Ok(is) => Ok(is),
+            Err(_) => explains(alloc, tracker, operations, order),
+        },
+        AnyOrder::NoneExists(reason) => match refutes(alloc, tracker, operations, reason) {
+            Ok(is) => Ok(is),
+            Err(_) => refutes(alloc, tracker, operations, reason),
+        },
     }
+}
+
+fn explains(
+    alloc: Global,
+    tracker: &Tracker,
+    operations: &[&Op],
+    order: &[u32],
+) -> Result<bool, NoMemory> {
+    Ok(
+        is_order_of_labels(alloc, tracker, order)?
+            && meets_demands(alloc, tracker, operations, order)?,
+    )
 }
 
 // Returns the answer. A stuck set has to have reasons.

@@ -1,7 +1,10 @@
 //! Tests of `ra_precedence`: calls succeed, and can be made again after a failed allocation.
 
 use ra_labels::NoMemory;
-use ra_precedence::{Condition, Held, Solution, name_only_below, order_of, stuck_set};
+use ra_precedence::{
+    Condition, Held, Solution, StuckSet, is_order, is_valid_stuck_set, name_only_below, order_of,
+    stuck_set,
+};
 use std::alloc::Global;
 use std::process::Abort;
 use std::test::Fail;
@@ -19,9 +22,39 @@ fn solved(
     conditions: &[Condition],
 ) -> Result<Solution, NoMemory> {
     assert!(rt; name_only_below(count, conditions));
-    match order_of(alloc, count, conditions) {
-        Ok(solution) => Ok(solution),
-        Err(_) => order_of(alloc, count, conditions),
+    let solution = match order_of(alloc, count, conditions) {
+        Ok(solution) => solution,
+        Err(_) => order_of(alloc, count, conditions)?,
+    };
+    if let Solution::Order(order) = &solution {
+        assert!(rt; solves(alloc, count, conditions, order)?);
+    }
+    Ok(solution)
+}
+
+// Returns whether the order is a solution, from a second call if an allocation fails in the first one.
+fn solves(
+    alloc: Global,
+    count: u32,
+    conditions: &[Condition],
+    order: &[u32],
+) -> Result<bool, NoMemory> {
+    match is_order(alloc, count, conditions, order) {
+        Ok(is) => Ok(is),
+        Err(_) => is_order(alloc, count, conditions, order),
+    }
+}
+
+// Returns whether the stuck set is valid, from a second call if an allocation fails in the first one.
+fn is_valid(
+    alloc: Global,
+    count: u32,
+    conditions: &[Condition],
+    set: &StuckSet,
+) -> Result<bool, NoMemory> {
+    match is_valid_stuck_set(alloc, count, conditions, set) {
+        Ok(is) => Ok(is),
+        Err(_) => is_valid_stuck_set(alloc, count, conditions, set),
     }
 }
 
@@ -96,6 +129,8 @@ fn a_long_chain_has_an_order(rt: HostRuntime) -> Result<(), Fail> {
     assert!(rt; !is_stuck);
     assert_eq!(rt; order.len(), 1000);
     assert_eq!(rt; order.first(), Some(&999));
+    conditions.push(condition(alloc, &[0], &[999])?)?;
+    assert_eq!(rt; stuck(&rt, alloc, 1000, &conditions)?.reasons.len(), 1000);
     Ok(())
 }
 
@@ -112,12 +147,24 @@ fn reasons(
     count: u32,
     conditions: &[Condition],
 ) -> Result<Vec<Held>, NoMemory> {
+    Ok(stuck(rt, alloc, count, conditions)?.reasons)
+}
+
+// Returns the stuck set with its reasons, which are valid, from a second call if an allocation fails in the first one.
+fn stuck(
+    rt: &impl Abort,
+    alloc: Global,
+    count: u32,
+    conditions: &[Condition],
+) -> Result<StuckSet, NoMemory> {
     let (set, is_stuck) = labels_of(solved(rt, alloc, count, conditions)?);
     assert!(rt; is_stuck);
-    match stuck_set(alloc, count, conditions, set.clone()?) {
-        Ok(stuck) => Ok(stuck.reasons),
-        Err(_) => Ok(stuck_set(alloc, count, conditions, set)?.reasons),
-    }
+    let found = match stuck_set(alloc, count, conditions, set.clone()?) {
+        Ok(stuck) => stuck,
+        Err(_) => stuck_set(alloc, count, conditions, set)?,
+    };
+    assert!(rt; is_valid(alloc, count, conditions, &found)?);
+    Ok(found)
 }
 
 fn is_held(held: &Held, label: u32, after: &[u32], by: u32) -> bool {
@@ -170,5 +217,83 @@ fn a_label_that_stands_before_none_is_a_reason(rt: HostRuntime) -> Result<(), Fa
     let found = reasons(&rt, alloc, 2, &conditions)?;
     assert_eq!(rt; found.len(), 1);
     assert!(rt; is_held(&found[0], 1, &[], 10));
+    Ok(())
+}
+
+// An order of three labels: 2 before 0, and both before 1.
+#[test]
+fn an_order_is_checked(rt: HostRuntime) -> Result<(), Fail> {
+    let alloc = rt.alloc();
+    let mut conditions = Vec::new(alloc);
+    conditions.push(condition(alloc, &[2], &[0])?)?;
+    conditions.push(condition(alloc, &[0, 2], &[1])?)?;
+    assert!(rt; solves(alloc, 3, &conditions, &[2, 0, 1])?);
+    assert!(rt; !solves(alloc, 3, &conditions, &[0, 2, 1])?);
+    assert!(rt; !solves(alloc, 3, &conditions, &[2, 1, 0])?);
+    assert!(rt; !solves(alloc, 3, &conditions, &[2, 0])?);
+    assert!(rt; !solves(alloc, 3, &conditions, &[2, 0, 0, 1])?);
+    assert!(rt; !solves(alloc, 3, &conditions, &[2, 0, 1, 3])?);
+    Ok(())
+}
+
+// Label 0 stands before 1 or 2, whichever is the last one.
+#[test]
+fn one_of_several_suffices(rt: HostRuntime) -> Result<(), Fail> {
+    let alloc = rt.alloc();
+    let mut conditions = Vec::new(alloc);
+    conditions.push(condition(alloc, &[0], &[1, 2])?)?;
+    assert!(rt; solves(alloc, 3, &conditions, &[1, 0, 2])?);
+    assert!(rt; solves(alloc, 3, &conditions, &[2, 0, 1])?);
+    assert!(rt; !solves(alloc, 3, &conditions, &[1, 2, 0])?);
+    conditions.push(condition(alloc, &[1], &[])?)?;
+    assert!(rt; !solves(alloc, 3, &conditions, &[1, 0, 2])?);
+    Ok(())
+}
+
+// A cycle of two labels, which needs no reasons. A valid set with one thing changed is rejected: a label that the
+// conditions do not constrain, no labels, a reason with another `by` or another `after`, and a later label without a
+// reason.
+#[test]
+fn a_stuck_set_is_checked(rt: HostRuntime) -> Result<(), Fail> {
+    let alloc = rt.alloc();
+    let mut conditions = Vec::new(alloc);
+    conditions.push(required(alloc, 10, &[0], &[1])?)?;
+    conditions.push(required(alloc, 11, &[1], &[0])?)?;
+    let mut found = stuck(&rt, alloc, 3, &conditions)?;
+    assert_eq!(rt; found.reasons.len(), 2);
+    found.reasons.clear();
+    assert!(rt; is_valid(alloc, 3, &conditions, &found)?);
+    found.labels.push(2)?;
+    assert!(rt; !is_valid(alloc, 3, &conditions, &found)?);
+    found.labels.clear();
+    assert!(rt; !is_valid(alloc, 3, &conditions, &found)?);
+    for change in 0..3 {
+        let mut found = stuck(&rt, alloc, 3, &conditions)?;
+        assert_eq!(rt; found.reasons.len(), 2);
+        match change {
+            0 => found.reasons[0].by = 12,
+            1 => found.reasons[0].after.push(0)?,
+            _ => found.reasons.truncate(1),
+        }
+        assert!(rt; !is_valid(alloc, 3, &conditions, &found)?);
+    }
+    Ok(())
+}
+
+// Two cycles: the reasons of one are none for the other.
+#[test]
+fn reasons_are_about_their_own_set(rt: HostRuntime) -> Result<(), Fail> {
+    let alloc = rt.alloc();
+    let mut conditions = Vec::new(alloc);
+    conditions.push(required(alloc, 10, &[0], &[1])?)?;
+    conditions.push(required(alloc, 11, &[1], &[0])?)?;
+    conditions.push(required(alloc, 12, &[2], &[3])?)?;
+    conditions.push(required(alloc, 13, &[3], &[2])?)?;
+    let first = stuck_set(alloc, 4, &conditions, vec![in alloc; 0, 1]?)?;
+    let mut second = stuck_set(alloc, 4, &conditions, vec![in alloc; 2, 3]?)?;
+    assert!(rt; is_valid(alloc, 4, &conditions, &first)?);
+    assert!(rt; is_valid(alloc, 4, &conditions, &second)?);
+    second.reasons = first.reasons;
+    assert!(rt; !is_valid(alloc, 4, &conditions, &second)?);
     Ok(())
 }
