@@ -25,7 +25,7 @@ pub record Explains (setup : Setup) (log : List MonitorEntry) (purpose : Purpose
   pub violation : MatchOption e.violation (fault_in setup log ≡ None) (λ v. IsFound setup log purpose v)
   pub conflict : MatchOption e.violation (e.conflict ≡ None) (λ v. HasConflict setup log v e.conflict)
   pub second_opinion : MatchOption e.violation (e.second_opinion ≡ None)
-      (λ v. HasOpinion setup log purpose v.place e.second_opinion)
+      (λ v. HasOpinion setup log v.place e.second_opinion)
   pub one_list : MatchOption e.violation (e.one_list ≡ None)
       (λ v. KnowsList setup log v.place e.second_opinion e.one_list)
   pub remedies : MatchOption e.violation (AreNone e.remedies) (λ v. HoldWith setup log v.place e.remedies)

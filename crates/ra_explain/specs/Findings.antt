@@ -2,7 +2,6 @@
 use Rattle.std.specs.Prelude.{◌≡◌, List, None}
 use Rattle.ra_monitor.specs.declared.setup.Setup.{Setup}
 use Rattle.ra_monitor.specs.Monitor.{MonitorEntry}
-use Rattle.ra_explain.specs.declared.explanation.Purpose.{Purpose}
 use Rattle.ra_explain.specs.declared.findings.Findings.{Findings}
 use Rattle.ra_explain.specs.declared.violation.Violation.{Violation}
 use Rattle.ra_explain.specs.Conflicts.{HasConflict}
@@ -11,10 +10,9 @@ use Rattle.ra_explain.specs.Opinions.{HasOpinion, KnowsList}
 
 -- holds if these are the findings on the violation: the conflict, what another order explains, whether it is one of a
 -- list, and the remedies
-pub record AreFindings (setup : Setup) (log : List MonitorEntry) (purpose : Purpose) (v : Violation) (it : Findings)
-    : Type 0 where
+pub record AreFindings (setup : Setup) (log : List MonitorEntry) (v : Violation) (it : Findings) : Type 0 where
   pub conflict : HasConflict setup log v it.conflict
-  pub second_opinion : HasOpinion setup log purpose v.place it.second_opinion
+  pub second_opinion : HasOpinion setup log v.place it.second_opinion
   pub one_list : KnowsList setup log v.place it.second_opinion it.one_list
   pub remedies : HoldWith setup log v.place it.remedies
 

@@ -11,22 +11,15 @@ use Rattle.ra_another_order.specs.declared.answer.Answer.TheVariants.{NoneExists
 use Rattle.ra_another_order.specs.declared.answer.Reason.TheVariants.{Rga as OfRga}
 use Rattle.ra_another_order.specs.Answers.{exists}
 use Rattle.ra_another_order.specs.Opinions.{IsOpinion}
-use Rattle.ra_explain.specs.declared.explanation.Purpose.{Purpose}
-use Rattle.ra_explain.specs.declared.explanation.Purpose.TheVariants as purpose
 use Rattle.ra_rga_precedence.specs.declared.answer.Refutation.TheVariants.{Wrong, Unlisted}
 use Rattle.ra_explain.specs.OneList.{is_one_list}
 
--- `true` if the purpose needs to know whether another order explains a violation, and the kind has one order of several
-abbrev pub is_asked : Kind → Purpose → Bool
-is_asked kind purpose.Drawing = false
-is_asked kind other = not (is_of_any_order kind)
-
--- Holds if there is an opinion exactly if it is asked. It is that about the labels up to this place of the log, and
--- about all labels that the log reports.
-pub record HasOpinion (setup : Setup) (log : List MonitorEntry) (purpose : Purpose) (place : ℕ)
-    (found : Option SecondOpinion) : Type 0 where
-  pub asked : is_some found ≡ is_asked setup.kind purpose
-  pub opinion : IfSome found (IsOpinion setup.kind setup.replicas log (place + 1))
+-- Holds if there is an opinion exactly if the kind has one order of several. It is that about the labels up to this
+-- place of the log, and about all labels that the log reports.
+pub record HasOpinion (setup : Setup) (log : List MonitorEntry) (place : ℕ) (found : Option SecondOpinion) : Type 0
+  where
+    pub asked : is_some found ≡ not (is_of_any_order setup.kind)
+    pub opinion : IfSome found (IsOpinion setup.kind setup.replicas log (place + 1))
 
 -- `true` if the violation is one of an RGA that no order explains
 abbrev pub asks_list : Kind → Option SecondOpinion → Bool

@@ -31,7 +31,7 @@ pub enum Purpose {
     Text,
     /// An object, which shows in any case what replicas lack, and for a violation the expected answer.
     Object,
-    /// A drawing, which shows for a violation the expected answer.
+    /// A drawing, which shows for a violation which labels rule out every order.
     Drawing,
 }
 
@@ -57,8 +57,7 @@ pub struct Explanation {
     pub violation: Option<Violation>,
     /// The conflict of the elements' orders, if the violation is one by the order of a list.
     pub conflict: Option<Conflict>,
-    /// What another order explains, if the violation is one of a register, an LWW set or an RGA and the purpose is not
-    /// a drawing.
+    /// What another order explains, if the violation is one of a register, an LWW set or an RGA.
     pub second_opinion: Option<SecondOpinion>,
     /// Why no order explains the labels up to the violation, by the second opinion. Empty if one does, or if there is
     /// no opinion. No clause states it.
@@ -114,11 +113,11 @@ impl Explanation {
         // that a label shows the other way round than the violating one exactly if there are any.
         ensures conflict { IfOk result (λ it. MatchOption it.violation (it.conflict ≡ None) (λ violation.
             HasConflict monitor.setup monitor.log violation it.conflict)) }
-        // A second opinion is present exactly if the violation is one of a register, an LWW set or an RGA, and the
-        // purpose needs one. It says whether any order explains the labels up to the violation, and how many of all
-        // reported labels some order explains.
+        // A second opinion is present exactly if the violation is one of a register, an LWW set or an RGA. It says
+        // whether any order explains the labels up to the violation, and how many of all reported labels some order
+        // explains.
         ensures second_opinion { IfOk result (λ it. MatchOption it.violation (it.second_opinion ≡ None) (λ violation.
-            HasOpinion monitor.setup monitor.log purpose violation.place it.second_opinion)) }
+            HasOpinion monitor.setup monitor.log violation.place it.second_opinion)) }
         // `one_list` is `Some` exactly if the violation is one of an RGA and, by the second opinion, no order of the
         // updates explains it. It is `false` if a read lists wrong elements; otherwise it is the answer of a list's
         // monitor.
@@ -146,7 +145,7 @@ impl Explanation {
             certificate,
             one_list,
             remedies,
-        } = Findings::of(alloc, &setup, &log, &places, &violation, purpose)?;
+        } = Findings::of(alloc, &setup, &log, &places, &violation)?;
         Ok(Explanation {
             conflict,
             second_opinion,

@@ -7,7 +7,6 @@ ghost use Rattle.ra_explain.specs.Places.{places_in};
 
 use crate::certificate::{Claim, claims_of};
 use crate::conflict::Conflict;
-use crate::explanation::Purpose;
 use crate::opinion::{list_answer, opinion_on};
 use crate::places::Places;
 use crate::remedies::Remedies;
@@ -49,7 +48,6 @@ impl Findings {
         log: &[Entry<Command, Reply>],
         places: &Places,
         violation: &Option<Violation>,
-        purpose: Purpose,
     ) -> Result<Findings, NoMemory>
         // A monitor of this setup recorded the log.
         requires legal { IsLegalLog setup.now log.now }
@@ -57,12 +55,10 @@ impl Findings {
         requires places { places.now ≡ places_in log.now }
         // They are the findings on the violation, or none without a violation. The claims are in no clause.
         ensures { IfOk result (λ it. MatchOption violation.now (AreNoFindings it)
-            (λ violation. AreFindings setup.now log.now purpose violation it)) }
+            (λ violation. AreFindings setup.now log.now violation it)) }
     {
         match violation {
-            Some(violation) => {
-                Findings::of_violation(alloc, setup, log, places, violation, purpose)
-            }
+            Some(violation) => { Findings::of_violation(alloc, setup, log, places, violation) }
             None => Ok(Findings::none(alloc)),
         }
     }
@@ -85,14 +81,13 @@ impl Findings {
         log: &[Entry<Command, Reply>],
         places: &Places,
         violation: &Violation,
-        purpose: Purpose,
     ) -> Result<Findings, NoMemory>
         requires legal { IsLegalLog setup.now log.now }
         requires places { places.now ≡ places_in log.now }
-        ensures { IfOk result (AreFindings setup.now log.now purpose violation.now) }
+        ensures { IfOk result (AreFindings setup.now log.now violation.now) }
     {
         let place = violation.place;
-        let second_opinion = opinion_on(alloc, setup, log, place, purpose)?;
+        let second_opinion = opinion_on(alloc, setup, log, place)?;
         Ok(Findings {
             conflict: conflict_of(alloc, setup, log, places, violation)?,
             certificate: claims_of(alloc, log, places, &second_opinion)?,

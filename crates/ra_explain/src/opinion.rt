@@ -3,7 +3,6 @@ ghost use Rattle.std.specs.Prelude.{◌≡◌, IfOk};
 ghost use Rattle.ra_monitor.specs.Monitor.{IsLegalLog};
 ghost use Rattle.ra_explain.specs.Opinions.{HasOpinion, KnowsList, can_be_one_list};
 
-use crate::explanation::Purpose;
 use crate::one_list::is_one_list;
 use ra_another_order::{Answer, Reason, SecondOpinion, second_opinion};
 use ra_journal::Entry;
@@ -13,8 +12,7 @@ use ra_rga_precedence::Refutation;
 use std::alloc::Global;
 
 /// Returns what another order explains, for a log with a violation at this index. `None` if no other order can explain
-/// a violation of the kind, or if the purpose does not need it. The question is about the labels up to the violation,
-/// and about all that the log reports.
+/// a violation of the kind. The question is about the labels up to the violation, and about all that the log reports.
 ///
 /// # Errors
 ///
@@ -28,18 +26,14 @@ pub fn opinion_on(
     setup: &Setup,
     log: &[Entry<Command, Reply>],
     place: u32,
-    purpose: Purpose,
 ) -> Result<Option<SecondOpinion>, NoMemory>
     // A monitor of this setup recorded the log.
     requires { IsLegalLog setup.now log.now }
-    // An opinion is present exactly if the kind is a register, an LWW set or an RGA and the purpose needs one. It is
-    // about the labels up to the violation, and about all reported labels.
-    ensures { IfOk result (HasOpinion setup.now log.now purpose place) }
+    // An opinion is present exactly if the kind is a register, an LWW set or an RGA. It is about the labels up to the
+    // violation, and about all reported labels.
+    ensures { IfOk result (HasOpinion setup.now log.now place) }
 {
-    match purpose {
-        Purpose::Text | Purpose::Object => second_opinion(alloc, setup, log, place as usize + 1),
-        Purpose::Drawing => Ok(None),
-    }
+    second_opinion(alloc, setup, log, place as usize + 1)
 }
 
 /// Returns whether the labels up to the violation at this index hold as those of a list. `None` if the kind is not an
