@@ -1,2 +1,3 @@
+mod ArcBytes
 mod Leads
 mod ShownRows

@@ -1,8 +1,10 @@
--- A drawing in SVG, up to its title.
+-- A drawing in SVG: its beginning with the title, and its end with the arcs.
 use Rattle.std.specs.Prelude.{◌≡◌, ℕ, List, ◌++◌, codes, decimal}
 use Rattle.ra_history_lines.specs.Replies.{end_line}
 use Rattle.ra_monitor.specs.declared.report.Report.{Report}
 use Rattle.ra_explain_text.specs.Quotes.{trimmed}
+use Rattle.ra_explain_diagram.specs.declared.arrow.Arrow.{Arrow}
+use Rattle.ra_explain_diagram.specs.Arcs.{EndsWithArcs}
 
 -- the end line of a check with this report, without its line feed
 abbrev pub title_of : Report → List ℕ
@@ -24,3 +26,8 @@ svg_start width height report = svg_opening width height
 abbrev pub PutsDrawing : Report → (old new : List ℕ) → Type 0
 PutsDrawing report old new = (width height : ℕ) × (content : List ℕ)
     × (new ≡ old ++ (svg_start width height report ++ content))
+
+-- holds if such a drawing was appended, which ends with the arcs of these arrows
+abbrev pub PutsArcs : (places : List ℕ) → List Arrow → Report → (old new : List ℕ) → Type 0
+PutsArcs places arrows report old new = (width height : ℕ) × (content : List ℕ)
+    × EndsWithArcs places arrows content × (new ≡ old ++ (svg_start width height report ++ content))

@@ -1,3 +1,5 @@
+pub mod Arrows
+pub mod Arcs
 pub mod Drawn
 pub mod Drawings
 pub mod Pictures

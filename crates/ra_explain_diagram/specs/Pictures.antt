@@ -6,6 +6,7 @@ use Rattle.ra_explain_text.specs.Rows.{padded, printable}
 use Rattle.ra_explain_diagram.specs.declared.drawing.Row.{Row}
 use Rattle.ra_explain_diagram.specs.declared.drawing.Row.TheVariants as row
 use Rattle.ra_explain_diagram.specs.declared.event.Event.{Event}
+use Rattle.ra_explain_diagram.specs.Arrows.{order_cell}
 use Rattle.ra_explain_diagram.specs.Drawn.{IsDrawn, IsHelpful, LeadTo, ShowsNone}
 
 -- a line with this head, and printable bytes in its columns
@@ -29,11 +30,18 @@ abbrev pub fold_count : Row → Option ℕ
 fold_count (row.Fold count) = Some count
 fold_count other = None
 
+abbrev pub BeginsWith : (front bytes : List ℕ) → Type 0
+BeginsWith front bytes = (rest : List ℕ) × (bytes ≡ front ++ rest)
+
+-- holds if the columns begin with the lines that a certificate orders behind that of the row
+abbrev pub AreColumns : Explanation → Violation → Row → List ℕ → Type 0
+AreColumns e v row columns = BeginsWith (order_cell e.places v.place row e.certificate.items) columns
+
 -- holds if the bytes are a line with the event of the row, or nothing if it shows none
 abbrev pub ShowsEvent : List (List ℕ) → Explanation → Violation → Row → List ℕ → Type 0
 ShowsEvent names e v row bytes = (ShowsNone e.log.items row × (bytes ≡ []))
     ⊎ ((event : Event) × (columns : List ℕ) × IsDrawn names e.log.items e.places v row event
-    × (bytes ≡ picture_line event.head.items columns))
+    × AreColumns e v row columns × (bytes ≡ picture_line event.head.items columns))
 
 abbrev pub ShowsFoldOr : List (List ℕ) → Explanation → Violation → Row → Option ℕ → List ℕ → Type 0
 ShowsFoldOr names e v row (Some count) bytes = bytes ≡ fold_line count

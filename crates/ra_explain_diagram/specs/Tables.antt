@@ -8,7 +8,8 @@ use Rattle.ra_explain_text.specs.Document.{escaped}
 use Rattle.ra_explain_diagram.specs.declared.drawing.Row.{Row}
 use Rattle.ra_explain_diagram.specs.declared.drawing.Row.TheVariants as row
 use Rattle.ra_explain_diagram.specs.declared.event.Event.{Event}
-use Rattle.ra_explain_diagram.specs.Drawings.{PutsDrawing}
+use Rattle.ra_explain_diagram.specs.Arrows.{arrows_in}
+use Rattle.ra_explain_diagram.specs.Drawings.{PutsArcs}
 use Rattle.ra_explain_diagram.specs.Drawn.{IsDrawn, IsHelpful, LeadTo, ShowsNone}
 use Rattle.ra_explain_diagram.specs.Pictures.{ShowEach, left_out_line}
 
@@ -46,9 +47,11 @@ table_of rows = codes "<table>\n<caption>The picture, row by row</caption>\n"
 abbrev pub caption_of : ℕ → List ℕ
 caption_of others = codes "<figcaption>" ++ (left_out_line others ++ codes "</figcaption></figure>\n")
 
--- holds if the bytes are a drawing with the title of this report, a caption, and the rows as a table
+-- Holds if the bytes are a drawing with the title of this report, a caption, and the rows as a table. The drawing ends
+-- with an arc for each two labels that a certificate orders, if both have a row.
 abbrev pub ShowsFigure : List (List ℕ) → Explanation → Violation → List Row → List ℕ → Type 0
-ShowsFigure names e v rows bytes = (drawing cells : List ℕ) × (others : ℕ) × PutsDrawing e.report [] drawing
+ShowsFigure names e v rows bytes = (drawing cells : List ℕ) × (others : ℕ)
+    × PutsArcs e.places (arrows_in e.places v.place rows e.certificate.items) e.report [] drawing
     × ShowEach (IsTableRow names e v) rows cells
     × (bytes ≡ codes "<figure>\n" ++ (drawing ++ (caption_of others ++ table_of cells)))
 

@@ -1,12 +1,15 @@
 //! The choice of the log's entries that a picture shows.
-use ra_explain::{Change, Difference, LabelsWith, Violation, named_by, needed_by, operation_in};
+use ra_explain::{
+    Change, Claim, Difference, LabelsWith, Violation, named_by, needed_by, operation_in,
+};
 use ra_explain_text::{View, shown};
 use ra_journal::Entry;
 use ra_labels::{Command, ListOp, NoMemory, Op, Reply};
 use std::alloc::Global;
 
-/// The largest number of entries that are drawn of a short history, and of a longer one, of which others are folded. Up
-/// to five rows for helpful changes are added, so there are at most 24 rows besides the folds.
+/// The largest number of entries that are drawn of a short history or for a certificate, and of a longer history, of
+/// which others are folded. Up to five rows for helpful changes are added, so there are at most 24 rows besides the
+/// folds.
 const MOST_ENTRIES: usize = 19;
 
 const FEW_ENTRIES: usize = 16;
@@ -15,9 +18,9 @@ const FEW_ENTRIES: usize = 16;
 const MOST_NAMING: u32 = 2;
 
 /// Returns the ascending indices of the entries to draw up to the violating label. Of a short history they are all
-/// accepted ones. Otherwise they are, as far as there is room: the labels of a cycle and their deliveries, the helpful
-/// changes, what the label's update depends on, the updates of elements at which its answer differs, and the latest
-/// deliveries and labels of its replica.
+/// accepted ones. Otherwise they are, as far as there is room: the labels that a certificate names, those of a cycle
+/// and their deliveries, the helpful changes, what the label's update depends on, the updates of elements at which its
+/// answer differs, and the latest deliveries and labels of its replica.
 pub fn places_of(
     alloc: Global,
     view: &View<'_>,
@@ -30,6 +33,7 @@ pub fn places_of(
             add_entry(&mut places, view, at, MOST_ENTRIES)?;
         }
     } else {
+        add_certificate(&mut places, view)?;
         add_cycle(&mut places, view, violation)?;
         add_changed(&mut places, view, violation)?;
         add_needed(&mut places, view, violation)?;
@@ -57,6 +61,36 @@ fn is_accepted(entry: &Entry<Command, Reply>) -> bool {
         Reply::Ok(_) | Reply::Got(_) | Reply::Joined(_) => true,
         Reply::Yes(_) | Reply::No { .. } | Reply::Refused(_) => false,
     }
+}
+
+// Adds the labels that the claims of a certificate name.
+fn add_certificate(places: &mut Vec<u32>, view: &View<'_>) -> Result<(), NoMemory> {
+    for label in &named_labels(*places.allocator(), &view.explanation.certificate)? {
+        if let Some(at) = view.explanation.places.at(*label) {
+            add_entry(places, view, at, MOST_ENTRIES)?;
+        }
+    }
+    Ok(())
+}
+
+/// Returns the labels that the claims name: of each claim the one that comes before others, and the one whose line
+/// shows it. Behind them are the others, each of which mostly comes before others itself.
+///
+/// # Errors
+///
+/// `NoMemory` if an allocation fails.
+pub fn named_labels(alloc: Global, claims: &[Claim]) -> Result<Vec<u32>, NoMemory> {
+    let mut labels = Vec::new(alloc);
+    for claim in claims {
+        if let Some(before) = claim.before {
+            labels.push(before)?;
+        }
+        labels.push(claim.label)?;
+    }
+    for claim in claims {
+        labels.extend_from_slice(&claim.after)?;
+    }
+    Ok(labels)
 }
 
 // Adds the labels of the cycle of a list's elements, and their deliveries to the replica.

@@ -1,9 +1,13 @@
-//! The content of a picture: rows from top to bottom, and a column for each replica that takes part, up to eight.
+//! The content of a picture: rows from top to bottom, a column for each replica that takes part, up to eight, and the
+//! arrows of a certificate.
 ghost use Rattle.std.specs.Prelude.{◌≡◌, ◌≤◌, ◌+◌, ◌++◌, All, Contains, IfOk, OnOk, Some};
 ghost use Rattle.ra_explain.specs.declared.remedies.Remedies.{Remedies};
+ghost use Rattle.ra_explain_diagram.specs.Arrows.{arrows_in};
 ghost use Rattle.ra_explain_diagram.specs.Drawn.{IsHelpful, LeadTo, fold_between, led_by, replica_of, source_of};
 
-use crate::chosen::places_of;
+use crate::arrow::{Arrow, arrows_of};
+use crate::chosen::{named_labels, places_of};
+use crate::order_column::width_of_order;
 use ra_explain::{Change, Remedies, Violation};
 use ra_explain_text::{View, shown};
 use ra_labels::{Command, NoMemory, Reply};
@@ -45,6 +49,10 @@ pub struct Picture {
     pub columns: Vec<Column>,
     /// Its rows, from the first entry on.
     pub rows: Vec<Row>,
+    /// The arrows between rows whose labels a certificate orders.
+    pub arrows: Vec<Arrow>,
+    /// The width in characters of the column with the lines that a certificate orders behind that of a row.
+    pub order_width: usize,
 }
 
 impl Picture {
@@ -54,6 +62,10 @@ impl Picture {
     ///
     /// `NoMemory` if an allocation fails.
     pub fn of(alloc: Global, view: &View<'_>, violation: &Violation) -> Result<Picture, NoMemory>
+        // The arrows are exactly those of the certificate's claims between labels that have a row.
+        ensures arrows { IfOk result (λ picture. picture.arrows.items ≡ arrows_in
+            view.now.explanation.now.places violation.now.place picture.rows.items
+            view.now.explanation.now.certificate.items) }
         // Each row for a change shows one of the remedies.
         ensures helpful { IfOk result (λ picture.
             All (IsHelpful view.now.explanation.now.remedies) picture.rows.items) }
@@ -72,7 +84,14 @@ impl Picture {
             }
         }
         add_rows(&mut rows, view, violation, next, violation.place)?;
-        Ok(Picture { columns, rows })
+        let arrows = arrows_of(alloc, view, violation, &rows)?;
+        let order_width = width_of_order(alloc, view, violation, &rows)?;
+        Ok(Picture {
+            columns,
+            rows,
+            arrows,
+            order_width,
+        })
     }
 
     /// Returns the number of replicas without a column.
@@ -204,7 +223,7 @@ fn is_at_one(view: &View<'_>, columns: &[Column], place: u32) -> bool {
 }
 
 // Returns the columns of the replicas that take part in the entries at these indices: the label's replica, and at most
-// seven others.
+// seven others, first those of the labels that a certificate names.
 fn columns_of(
     alloc: Global,
     view: &View<'_>,
@@ -213,6 +232,9 @@ fn columns_of(
 ) -> Result<Vec<Column>, NoMemory> {
     let mut replicas = Vec::new(alloc);
     replicas.push(violation.replica)?;
+    for label in &named_labels(alloc, &view.explanation.certificate)? {
+        add_replica(&mut replicas, view.explanation.issuer(*label))?;
+    }
     for at in places {
         if let Some(entry) = view.explanation.entry(*at) {
             let (one, other) = ends_of(view, &entry.command);

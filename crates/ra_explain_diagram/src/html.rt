@@ -1,5 +1,6 @@
 //! The explanation as one HTML document: the text, the picture, and its rows as a table for screen readers.
 ghost use Rattle.std.specs.Prelude.{◌≡◌, ℕ, ◌++◌, IfOk, List, OnOk, codes};
+ghost use Rattle.ra_explain_diagram.specs.Arrows.{arrows_in};
 ghost use Rattle.ra_explain_diagram.specs.Pages.{PutsDocument};
 ghost use Rattle.ra_explain_diagram.specs.Pictures.{ShowEach};
 ghost use Rattle.ra_explain_diagram.specs.Tables as tables;
@@ -23,7 +24,8 @@ use std::alloc::Global;
 pub fn put_html(out: &mut Vec<u8>, view: &View<'_>) -> Result<(), NoMemory>
     // After success, exactly the document is appended whose title is the end line of the check, whose text is that of
     // the explanation, and whose figure is empty exactly if there is no violation. The figure is a drawing with a table
-    // of its rows. No clause says what the drawing shows.
+    // of its rows. The drawing ends with an arc for each two labels that a certificate orders, if both have a row: from
+    // the height of the one row to that of the other. No clause says what else the drawing shows.
     ensures { OnOk result (PutsDocument view.now.names.now view.now.explanation.now out.old.items out.new.items) }
 {
     let alloc = *out.allocator();
@@ -55,6 +57,8 @@ fn figure_with(
     violation: &Violation,
     picture: &Picture,
 ) -> Result<Vec<u8>, NoMemory>
+    requires arrows { picture.now.arrows.items ≡ arrows_in view.now.explanation.now.places violation.now.place
+        picture.now.rows.items view.now.explanation.now.certificate.items }
     ensures { IfOk result (λ figure. ShowsFigure view.now.names.now view.now.explanation.now violation.now
         picture.now.rows.items figure.items) }
 {

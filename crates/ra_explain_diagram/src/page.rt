@@ -17,7 +17,8 @@ use std::alloc::Global;
 /// `NoMemory` if an allocation fails.
 pub fn put_page(out: &mut Vec<u8>, view: &View<'_>) -> Result<(), NoMemory>
     // After success, the text of the explanation is appended, and behind it the picture if there is a violation: a line
-    // for each row, with the head of its event. No clause says what the columns of a line show.
+    // for each row, with the head of its event, and then the lines that a certificate orders after its own. No clause
+    // says what else the columns of a line show.
     ensures { OnOk result (PutsPage view.now.names.now view.now.explanation.now out.old.items out.new.items) }
 {
     let picture = picture_of(*out.allocator(), view)?;

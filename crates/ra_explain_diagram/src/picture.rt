@@ -1,9 +1,11 @@
 //! The picture as characters.
 ghost use Rattle.std.specs.Prelude.{◌≡◌, ℕ, ◌++◌, ◌∷◌, [], IfOk, List, OnOk};
-ghost use Rattle.ra_explain_diagram.specs.Pictures.{ShowsEvent, ShowsPicture, ShowsRow, ShowsRows, fold_count, fold_line, left_out_line, not_drawn_line, picture_line};
+ghost use Rattle.ra_explain_diagram.specs.Arrows as arrows;
+ghost use Rattle.ra_explain_diagram.specs.Pictures.{BeginsWith, ShowsEvent, ShowsPicture, ShowsRow, ShowsRows, fold_count, fold_line, left_out_line, not_drawn_line, picture_line};
 
 use crate::drawing::{Picture, Row};
 use crate::event::Event;
+use crate::order_column::{HEAD, order_cell};
 use ra_explain::Violation;
 use ra_explain_text::{View, behind, put, put_count, put_padded, put_printable, trimmed};
 use ra_history_lines::number::put_numbered;
@@ -135,7 +137,7 @@ fn put_event(
 {
     match Event::of(*out.allocator(), view, violation, row)? {
         Some(event) => {
-            let columns = columns_of(*out.allocator(), picture, &event)?;
+            let columns = columns_of(*out.allocator(), view, violation, picture, row, &event)?;
             put_line_with(out, &event.head, &columns)
         }
         None => Ok(()),
@@ -154,19 +156,55 @@ fn put_line_with(out: &mut Vec<u8>, head: &[u8], columns: &[u8]) -> Result<(), N
 // Returns the columns of the line with the names, without the spaces behind the last one.
 fn names_of(alloc: Global, view: &View<'_>, picture: &Picture) -> Result<Vec<u8>, NoMemory> {
     let mut line = blank(alloc)?;
+    if picture.order_width > 0 {
+        write_at(&mut line, MARGIN, HEAD, HEAD.len());
+    }
     let width = width_of(picture);
-    let mut start = MARGIN;
+    let mut start = start_of(picture, 0);
     for column in &picture.columns {
         if let Some(name) = view.names.name(column.replica) {
             write_name(&mut line, start, name, width);
         }
         start = start.saturating_add(width);
     }
-    behind_margin(alloc, &line)
+    behind_margin(alloc, &line, MARGIN)
 }
 
-// Returns the columns of the line with the event, without the spaces behind its words or its arrow.
-fn columns_of(alloc: Global, picture: &Picture, event: &Event) -> Result<Vec<u8>, NoMemory> {
+// Returns the columns of the line with the event, behind the lines that a certificate orders behind its own.
+fn columns_of(
+    alloc: Global,
+    view: &View<'_>,
+    violation: &Violation,
+    picture: &Picture,
+    row: Row,
+    event: &Event,
+) -> Result<Vec<u8>, NoMemory>
+    ensures { IfOk result (λ columns. BeginsWith (arrows.order_cell view.now.explanation.now.places
+        violation.now.place row view.now.explanation.now.certificate.items) columns.items) }
+{
+    let mut columns = order_cell(alloc, view, violation, row)?;
+    let line = replicas_of(alloc, picture, event)?;
+    let rest = aside(
+        alloc,
+        picture.order_width.saturating_sub(columns.len()),
+        &line,
+    )?;
+    columns.extend_from_slice(&rest)?;
+    Ok(columns)
+}
+
+// Returns the line behind this number of spaces.
+fn aside(alloc: Global, spaces: usize, line: &[u8]) -> Result<Vec<u8>, NoMemory> {
+    let mut out = Vec::new(alloc);
+    for _ in 0..spaces {
+        out.push(b' ')?;
+    }
+    out.extend_from_slice(line)?;
+    Ok(out)
+}
+
+// Returns the replicas' columns of the line with the event, without the spaces behind its words or its arrow.
+fn replicas_of(alloc: Global, picture: &Picture, event: &Event) -> Result<Vec<u8>, NoMemory> {
     let mut line = blank(alloc)?;
     draw_columns(&mut line, picture, event.place);
     if let Some(to) = picture.column_of(event.to) {
@@ -176,13 +214,13 @@ fn columns_of(alloc: Global, picture: &Picture, event: &Event) -> Result<Vec<u8>
         let start = start_of(picture, to);
         write_at(&mut line, start, &event.words, width_of(picture));
     }
-    behind_margin(alloc, &line)
+    behind_margin(alloc, &line, start_of(picture, 0))
 }
 
-// Returns the bytes of the line from the first column on, without the spaces at its end.
-fn behind_margin(alloc: Global, line: &[u8]) -> Result<Vec<u8>, NoMemory> {
+// Returns the bytes of the line from this position on, without the spaces at its end.
+fn behind_margin(alloc: Global, line: &[u8], start: usize) -> Result<Vec<u8>, NoMemory> {
     let mut columns = Vec::new(alloc);
-    columns.extend_from_slice(trimmed(behind(line, MARGIN)))?;
+    columns.extend_from_slice(trimmed(behind(line, start)))?;
     Ok(columns)
 }
 
@@ -200,7 +238,7 @@ fn write_name(line: &mut Vec<u8>, start: usize, name: &[u8], width: usize) {
 
 // Draws a bar in each column whose replica exists at this index of the log.
 fn draw_columns(line: &mut Vec<u8>, picture: &Picture, place: u32) {
-    let mut start = MARGIN;
+    let mut start = start_of(picture, 0);
     for column in &picture.columns {
         if column.begins.unwrap_or(0) <= place {
             write_at(line, start, b"|", 1);
@@ -212,7 +250,7 @@ fn draw_columns(line: &mut Vec<u8>, picture: &Picture, place: u32) {
 fn width_of(picture: &Picture) -> usize {
     match picture.columns.len() {
         0 => WIDEST,
-        count => ((PAGE - MARGIN) / count).min(WIDEST),
+        count => ((PAGE - MARGIN).saturating_sub(picture.order_width) / count).min(WIDEST),
     }
 }
 
@@ -220,6 +258,7 @@ fn start_of(picture: &Picture, column: usize) -> usize {
     column
         .saturating_mul(width_of(picture))
         .saturating_add(MARGIN)
+        .saturating_add(picture.order_width)
 }
 
 // Draws the arrow from one column to the other, with room for the words there.

@@ -1,7 +1,9 @@
 //! The picture as a drawing in SVG.
-ghost use Rattle.std.specs.Prelude.{◌≡◌, ◌++◌, OnOk};
-ghost use Rattle.ra_explain_diagram.specs.Drawings.{PutsDrawing, svg_opening, svg_start, title_of};
+ghost use Rattle.std.specs.Prelude.{◌≡◌, ◌++◌, IfOk, OnOk};
+ghost use Rattle.ra_explain_diagram.specs.Arcs.{EndsWithArcs, row_level};
+ghost use Rattle.ra_explain_diagram.specs.Drawings.{PutsArcs, PutsDrawing, svg_opening, svg_start, title_of};
 
+use crate::arcs::{arcs_width, put_arcs, put_legend};
 use crate::drawing::{Column, Picture, Row};
 use crate::event::Event;
 use ra_explain::Violation;
@@ -12,15 +14,15 @@ use ra_labels::NoMemory;
 use ra_monitor::Report;
 use std::alloc::Global;
 
-/// Dimensions in points: the position of the first column and of the first row, the distance of columns and of rows,
-/// and the distance of words from their column and from their row.
+/// Dimensions in points: the position of the first column without arcs and of the first row, the distance of columns
+/// and of rows, and the distance of words from their column and from their row.
 const LEFT: u32 = 170;
 
-const TOP: u32 = 90;
+pub const TOP: u32 = 90;
 
 const WIDTH: u32 = 210;
 
-const HEIGHT: u32 = 30;
+pub const HEIGHT: u32 = 30;
 
 const ASIDE: u32 = 9;
 
@@ -75,11 +77,14 @@ pub fn put_drawing(
     violation: &Violation,
     picture: &Picture,
 ) -> Result<(), NoMemory>
-    ensures { OnOk result (PutsDrawing view.now.explanation.now.report out.old.items out.new.items) }
+    // After success, a drawing of some size is appended whose title is the end line of the check, and which ends with
+    // an arc for each arrow of the picture.
+    ensures { OnOk result (PutsArcs view.now.explanation.now.places picture.now.arrows.items
+        view.now.explanation.now.report out.old.items out.new.items) }
 {
     let bottom = height_of(small(picture.rows.len()));
     let content = content_of(*out.allocator(), view, violation, picture, bottom)?;
-    let width = left_of(small(picture.columns.len()));
+    let width = left_of(picture, small(picture.columns.len()));
     put_sized(out, &view.explanation.report, width, bottom, &content)
 }
 
@@ -91,7 +96,8 @@ fn put_sized(
     height: u32,
     content: &[u8],
 ) -> Result<(), NoMemory>
-    ensures { OnOk result (PutsDrawing report.now out.old.items out.new.items) }
+    ensures { OnOk result (out.new.items
+        ≡ out.old.items ++ (svg_start width height report.now ++ content.now)) }
 {
     put_start(out, report, width, height)?;
     Ok(out.extend_from_slice(content)?)
@@ -114,20 +120,31 @@ fn content_of(
     violation: &Violation,
     picture: &Picture,
     bottom: u32,
-) -> Result<Vec<u8>, NoMemory> {
+) -> Result<Vec<u8>, NoMemory>
+    ensures { IfOk result (λ content. EndsWithArcs view.now.explanation.now.places picture.now.arrows.items
+        content.items) }
+{
     let mut out = Vec::new(alloc);
     put_heading(&mut out, &view.explanation.report)?;
     put_columns(&mut out, view, picture, bottom)?;
     put_rows(&mut out, view, violation, picture)?;
+    put_legend(&mut out, &picture.arrows)?;
+    put_arcs(&mut out, &view.explanation.places, &picture.arrows)?;
     put(&mut out, "</svg>\n")?;
     Ok(out)
 }
 
-fn left_of(column: u32) -> u32 {
-    column.saturating_mul(WIDTH).saturating_add(LEFT)
+fn left_of(picture: &Picture, column: u32) -> u32 {
+    column
+        .saturating_mul(WIDTH)
+        .saturating_add(LEFT)
+        .saturating_add(arcs_width(&picture.arrows))
 }
 
-fn height_of(row: u32) -> u32 {
+/// Returns the position of the row with this index.
+pub fn height_of(row: u32) -> u32
+    ensures { result ≡ row_level row }
+{
     row.saturating_mul(HEIGHT).saturating_add(TOP)
 }
 
@@ -179,8 +196,12 @@ pub fn put_answer(out: &mut Vec<u8>, report: &Report) -> Result<(), NoMemory>
     Ok(out.extend_from_slice(trimmed(&line))?)
 }
 
-// Appends the start of a text at this position.
-fn put_text(out: &mut Vec<u8>, x: u32, y: u32) -> Result<(), NoMemory> {
+/// Appends the start of a text at this position.
+///
+/// # Errors
+///
+/// `NoMemory` if an allocation fails.
+pub fn put_text(out: &mut Vec<u8>, x: u32, y: u32) -> Result<(), NoMemory> {
     put_numbered(out, b"<text x=\"", x)?;
     put_numbered(out, b"\" y=\"", y)?;
     put(out, "\">")
@@ -200,7 +221,7 @@ fn put_columns(
     picture: &Picture,
     bottom: u32,
 ) -> Result<(), NoMemory> {
-    let mut x = LEFT;
+    let mut x = left_of(picture, 0);
     for column in &picture.columns {
         let start = start_of(picture, *column);
         put(out, "<g class=\"replica\">")?;
@@ -263,9 +284,9 @@ fn put_event(out: &mut Vec<u8>, picture: &Picture, event: &Event, y: u32) -> Res
     out.extend_from_slice(&event.head)?;
     put(out, "</text>")?;
     if let Some(to) = picture.column_of(event.to) {
-        let x = left_of(small(to));
+        let x = left_of(picture, small(to));
         if let Some(from) = picture.column_of(event.from) {
-            put_arrow(out, left_of(small(from)), x, y)?;
+            put_arrow(out, left_of(picture, small(from)), x, y)?;
         }
         put_numbered(out, b"<circle r=\"4\" cx=\"", x)?;
         put_numbered(out, b"\" cy=\"", y)?;
