@@ -7,6 +7,7 @@ from html.parser import HTMLParser
 from xml.etree import ElementTree
 
 from assertions import require
+from explanation_arcs import require_arcs
 from explanation_pictures import Picture
 
 # The number of letters of a row's words that a drawing shows; two points follow those of a longer one.
@@ -103,8 +104,8 @@ def require_document_of_a_fault(document, title, words):
     require(len(reader.begun()) == len(HEAD), "an element more", reader.begun()[len(HEAD) :])
 
 
-def require_document(case, page, document, drawing):
-    """Has the document the words, and of a violation the drawing and its rows?"""
+def require_document(case, page, document):
+    """Has the document the words, and of a violation a drawing and its rows?"""
     require(len(document) <= MOST_BYTES, "the size of a document", len(document))
     words = page.split("\n\n")
     words = words if not case.fault else words[:-1]
@@ -114,10 +115,12 @@ def require_document(case, page, document, drawing):
         require(not behind, "a figure of a pass", behind)
         require_document_of_a_fault(document, end, rest)
         return
-    require(behind.startswith(f"{drawing}<figcaption>"), "the drawing of a document", behind)
-    reader = Reader(front + behind[len(drawing) :])
+    drawing, _, behind = behind.partition("<figcaption>")
+    picture = Picture(case, case.claims)
+    require_drawing(picture, drawing)
+    reader = Reader(f"{front}<figcaption>{behind}")
     require_head(reader, end, rest)
-    require_table(Picture(case), reader)
+    require_table(picture, reader)
 
 
 def require_table(picture, reader):
@@ -149,14 +152,16 @@ def texts_of(element):
 
 
 class Drawing:
-    """A drawing that was parsed: what it has in front, its columns, and its rows."""
+    """A drawing that was parsed: what it has in front, its columns, its rows, and the arcs of a certificate."""
 
     def __init__(self, drawing):
         self.root = ElementTree.fromstring(drawing)
-        self.groups = self.root.findall(f"{SVG}g")
-        self.columns = [it for it in self.groups if it.get("class") == "replica"]
-        self.rows = [it for it in self.groups if it.get("class") != "replica"]
-        require(self.groups == [*self.columns, *self.rows], "columns stand before rows", drawing)
+        groups = self.root.findall(f"{SVG}g")
+        self.arcs = [it for it in groups if it.get("class") == "order"]
+        self.columns = [it for it in groups if it.get("class") == "replica"]
+        self.rows = [it for it in groups if it not in self.columns and it not in self.arcs]
+        self.groups = [*self.columns, *self.rows]
+        require(groups == [*self.groups, *self.arcs], "columns stand before rows, and rows before arcs", drawing)
         require(not (self.root.text or "").strip(), "text of a drawing", self.root.text)
         self.size = numbers(self.root, "width", "height")
 
@@ -180,15 +185,26 @@ class Drawing:
         return int(columns[name].find(f"{SVG}line").get("x1")) if name in columns else None
 
 
-def require_drawing(case, drawing):
-    """Does the drawing show the columns and rows of the model's picture?"""
+def parsed(case, drawing):
+    """The drawing, which has nothing that is not its own, and the answer above it."""
     drawn = Drawing(drawing)
     drawn.require_own()
     require([drawn.root[0].text, drawn.root[3].text] == [case.end()] * 2, "the answer of a drawing", drawing)
-    if not case.fault:
-        require(not drawn.groups, "something is drawn of a pass", drawing)
-        return
-    picture = Picture(case)
+    return drawn
+
+
+def require_drawing_alone(case, drawing):
+    """The drawing without a document: of a pass nothing, and of a violation the same."""
+    if case.fault:
+        require_drawing(Picture(case, case.claims), drawing)
+    else:
+        drawn = parsed(case, drawing)
+        require(not drawn.groups and not drawn.arcs, "something is drawn of a pass", drawing)
+
+
+def require_drawing(picture, drawing):
+    """Does the drawing show the columns, rows and arrows of the model's picture?"""
+    drawn = parsed(picture.case, drawing)
     names = [it for group in drawn.columns for it in texts_of(group)]
     require(names == picture.columns, "the columns of a drawing", names, picture.columns)
     require(len(drawn.rows) == len(picture.rows), "the rows of a drawing", len(drawn.rows), picture.rows)
@@ -200,6 +216,7 @@ def require_drawing(case, drawing):
     for group, row, height in zip(drawn.rows, picture.rows, heights):
         require_row(drawn, columns, group, row, height)
     require_columns(picture, columns, heights)
+    require_arcs(picture, drawn.arcs, heights, places[0])
 
 
 def require_row(drawn, columns, group, row, height):

@@ -1,10 +1,12 @@
 """The picture of an explanation by the model: which rows and columns it has, what each shows, and that in letters."""
 from collections import namedtuple
 
+from explanation_arrows import HEAD, cell_of, named_labels, width_of_cells
 from explanation_case import INSERTS, element_of
 from explanation_text import MOST_REMEDIES, answer_of, words_of
 
-# The most entries of a short history up to the violating one, all of which are drawn; and those of a longer one.
+# The most entries of a short history up to the violating one, all of which are drawn, and of a longer one for what a
+# certificate names; and those of a longer one.
 MOST_ENTRIES, FEW_ENTRIES = 19, 16
 # The latest updates of an element at which the answers differ that are drawn, and the most replicas with a column.
 MOST_NAMING, MOST_COLUMNS = 2, 8
@@ -21,11 +23,12 @@ Row = namedtuple("Row", "head words source target place dashed asked")
 class Choice:
     """The places of the entries that are drawn: all of a short history, else the first of each sort that have room."""
 
-    def __init__(self, case):
+    def __init__(self, case, claims):
         self.case, self.places = case, [case.place]
         if case.place < MOST_ENTRIES:
             self.add(range(case.place), MOST_ENTRIES)
             return
+        self.add([case.places[label] for label in named_labels(claims)], MOST_ENTRIES)
         self.add(self.places_of_a_cycle())
         self.add(self.places_of_remedies())
         self.add(self.places_of_needs())
@@ -108,10 +111,12 @@ def ends_of(case, place):
 
 
 class Picture:
-    """The columns, by the numbers of their replicas, and the rows; of a fold the number of entries."""
+    """The columns, by the numbers of their replicas, and the rows; of a fold the number of entries. Without claims it
+    is that of a violation of which it is not asked whether another order explains it."""
 
-    def __init__(self, case):
-        self.case, places = case, sorted(Choice(case).places)
+    def __init__(self, case, claims):
+        self.case, self.claims = case, claims
+        places = sorted(Choice(case, claims).places)
         self.columns = self.columns_of(places)
         self.rows, following = [], 0
         for at in places:
@@ -123,10 +128,10 @@ class Picture:
 
     def columns_of(self, places):
         found = [self.case.name]
-        for at in places:
-            for name in ends_of(self.case, at):
-                if name and name not in found and len(found) < MOST_COLUMNS:
-                    found.append(name)
+        names = [self.case.maker(label) for label in named_labels(self.claims)]
+        for name in [*names, *(name for at in places for name in ends_of(self.case, at))]:
+            if name and name not in found and len(found) < MOST_COLUMNS:
+                found.append(name)
         return sorted(found, key=self.case.monitor.names.index)
 
     def rows_at(self, at):
@@ -161,7 +166,8 @@ class Letters:
 
     def __init__(self, picture):
         self.picture, self.columns = picture, picture.columns
-        self.width = min(WIDEST, (PAGE - MARGIN) // len(self.columns))
+        self.margin = MARGIN + width_of_cells(picture)
+        self.width = min(WIDEST, (PAGE - self.margin) // len(self.columns))
 
     def lines(self):
         yield ""
@@ -171,10 +177,12 @@ class Letters:
         yield from filter(None, [self.picture.left_out()])
 
     def start(self, name):
-        return MARGIN + self.columns.index(name) * self.width
+        return self.margin + self.columns.index(name) * self.width
 
     def names(self):
         line = [" "] * PAGE
+        if self.margin > MARGIN:
+            line[MARGIN : MARGIN + len(HEAD)] = HEAD
         for name in self.columns:
             # Of a long name the end is shown, behind two points, and a space stands behind it.
             room = self.width - 3
@@ -185,6 +193,8 @@ class Letters:
     def line(self, row):
         line = [" "] * PAGE
         line[: len(row.head)] = row.head
+        cell = cell_of(self.picture, row)
+        line[MARGIN : MARGIN + len(cell)] = cell
         for name in self.columns:
             if self.picture.begins(name) <= row.place:
                 line[self.start(name)] = "|"
@@ -208,4 +218,5 @@ class Letters:
 def page_of(case):
     """The whole page in words."""
     lines = [case.end(), *words_of(case)]
-    return "".join(f"{it}\n" for it in [*lines, *(Letters(Picture(case)).lines() if case.fault else [])])
+    picture = Letters(Picture(case, case.claims)).lines() if case.fault else []
+    return "".join(f"{it}\n" for it in [*lines, *picture])
