@@ -1,13 +1,14 @@
 -- Lemmas on names that are added one after another.
 use Rattle.std.proofs.Common.{◌≡◌, ℕ, ◌+◌, ◌<◌, Bool, true, false, cond, ◌≤◌, ltb, List, [], ◌∷◌, ◌++◌, length, take, drop, eqb, ◌≢◌}
 use Rattle.std.proofs.Common.{get_or, zero, suc, Some, None, Result, Err, refl, sym, ap, subst, ◌∙◌, arith, inl, inr}
-use Rattle.std.specs.Prelude.{bytes_eq, codes, position, Option, unwrap_or, IfOk, not, ◌||◌, ◌&&◌, if◌then◌else◌}
+use Rattle.std.specs.Prelude.{bytes_eq, codes, slice_get, option_map, position, Option, unwrap_or, IfOk, not, ◌||◌, ◌&&◌, if◌then◌else◌}
 use Rattle.std.specs.Borrow.{Bor}
 use Rattle.std.specs.Global as global
 use Rattle.std.specs.List.{list_all, list_any, position_or_len, IsDistinct, AllByRecursion}
-use Rattle.std.proofs.lemmas.Bool.{cases_Bool, and_parts, and_from, ltb-false, ne_eqb, eq-eqb}
+use Rattle.std.proofs.lemmas.Bool.{cases_Bool, and_parts, or_parts, not-true, and_from, ltb-false, ne_eqb, eq-eqb}
 use Rattle.std.proofs.lemmas.Cmp.{nat_list_eq_equiv}
 use Rattle.std.proofs.lemmas.List.{append_assoc, length_push, length-append, length-map, length-take-le, map-append, take_more}
+use Rattle.std.proofs.lemmas.Option.{slice_get-map}
 use Rattle.std.proofs.lemmas.Slice.Eq.{bytes_eq-Decides}
 use Rattle.std.proofs.lemmas.List.Folds.{list_all-append}
 use Rattle.std.proofs.lemmas.List.Recursion.{is_position_or_len}
@@ -17,7 +18,7 @@ use Rattle.ra_history_lines.specs.declared.format.Format.{Format}
 use Rattle.ra_history_lines.specs.declared.format.Format.TheVariants.{Rah1, Rah2}
 use Rattle.ra_labels.specs.declared.kind.Kind.{Kind}
 use Rattle.ra_labels.specs.declared.command.Command.{Command}
-use Rattle.ra_history_lines.specs.Reading.{replica_read, replica_command_read, command_read}
+use Rattle.ra_history_lines.specs.Reading.{are_distinct, replica_read, replica_command_read, command_read}
 use Rattle.ra_history_lines.specs.NamesKept.{NamesKept}
 use Rattle.ra_history_lines.proofs.Heads.{no_words, distinct_found, distinct_only}
 use Rattle.ra_history_lines.specs.declared.fault.LineFault.{LineFault}
@@ -116,6 +117,36 @@ place_missing keys name e =
             length-map keys (λ key. key.items),
           )
     ]
+
+-- a word at a position among distinct names has this position
+among : (names : List (List ℕ)) (own name : List ℕ) (at : ℕ) → slice_get names at ≡ Some name
+    → list_any (bytes_eq own) names ≡ false → bytes_eq own name ≡ false
+among [] own name at there none = absurd cc
+among (first ∷ names) own name zero there none =
+    let same : first ≡ name = cc in
+    let here : bytes_eq own first ≡ false = (or_parts (bytes_eq own first) (list_any (bytes_eq own) names) none).0 in
+    ap (bytes_eq own) (sym same) ∙ here
+among (first ∷ names) own name (suc at) there none =
+    among names own name at there (or_parts (bytes_eq own first) (list_any (bytes_eq own) names) none).1
+
+position_of : (names : List (List ℕ)) (name : List ℕ) (at : ℕ) → are_distinct names ≡ true
+    → slice_get names at ≡ Some name → at ≡ index_of_name names name
+position_of [] name at distinct there = absurd cc
+position_of (own ∷ names) name zero distinct there =
+    let same : own ≡ name = cc in
+    let here : bytes_eq name own ≡ true = (bytes_eq-Decides name own).1 (sym same) in
+    rw here refl
+position_of (own ∷ names) name (suc at) distinct there =
+    let parts = and_parts (not (list_any (bytes_eq own) names)) (are_distinct names) distinct in
+    let apart = among names own name at there (not-true (list_any (bytes_eq own) names) parts.0) in
+    let other : bytes_eq name own ≡ false = nat_list_eq_equiv.symm name own ∙ apart in
+    rw other (omega (arith, position_of names name at parts.1 there))
+
+pub place_of_key : (keys : List (global.Vec ℕ)) (name : List ℕ) (at : ℕ) (key : global.Vec ℕ) → NamesKept keys
+    → slice_get keys at ≡ Some key → key.items ≡ name → at ≡ index_of_name (bytes_of_each keys) name
+place_of_key keys name at key kept there is =
+    position_of (bytes_of_each keys) name at kept.distinct
+    (slice_get-map (λ k. k.items) keys at ∙ ap (option_map (λ k. k.items)) there ∙ ap (λ n. Some n) is)
 
 -- a new key is appended
 any_key : (keys : List (global.Vec ℕ)) (name : List ℕ)

@@ -4,6 +4,7 @@ ghost use Rattle.std.specs.List.{list_all, list_any};
 ghost use Rattle.ra_history_lines.specs.Grammar as grammar;
 ghost use Rattle.ra_history_lines.specs.Grammar.{has_form_of_name, index_of_name, ListsNames, AreNames};
 ghost use Rattle.ra_history_lines.specs.Reading.{replica_read};
+ghost use Rattle.ra_history_lines.specs.NamesKept.{NamesKept};
 ghost use Rattle.ra_history_lines.specs.Names.{AreNamesSoFar, MayJoin, bytes_of_each, texts_of, is_bad_behind, AreDistinctNames, IsFirstBad, IsFaultOf, StopsAdding};
 ghost use Rattle.ra_history_lines.specs.declared.format.Format.TheVariants.{Rah2};
 ghost use Rattle.ra_history_lines.specs.declared.fault.LineFault.TheVariants.{Syntax};
@@ -47,12 +48,15 @@ fn may_follow(bytes: &[u8]) -> bool
 /// The names of a history's replicas, indexed by replica number. Contracts view it as the list of the names.
 pub struct Names {
     set: IndexSet<Vec<u8>>,
+    // For each byte, the number of the last added name that begins with it, or 0 if none does. The name is compared
+    // with the word before the number is used, so most words are found without a hash.
+    guesses: [u8; 256],
 }
 
 impl Drop for Names {
     // Written out, so that dropping `Names` calls this function and not the set's own.
     fn drop(self) {
-        let Names { set: _ } = self;
+        let Names { set: _, guesses: _ } = self;
     }
 }
 
@@ -149,6 +153,7 @@ impl Names {
     {
         Names {
             set: IndexSet::new(alloc),
+            guesses: [0; 256],
         }
     }
 
@@ -184,18 +189,29 @@ impl Names {
     ///
     /// # Complexity
     ///
-    /// O(length of the word): a hash lookup, whatever the number of names.
+    /// O(length of the word), whatever the number of names: a comparison, and a hash lookup unless the word is the name
+    /// with its first byte that was added last.
+    #[inline(always)]
     pub fn replica(&self, word: &[u8]) -> Option<u8>
         // The result is the position of the word among the names, the number of names if it is a valid name of no
         // replica, and `None` if it is no valid name.
         ensures { result ≡ replica_read self.now word.now }
     {
-        let place = place_in(&self.set, word);
+        let place = place_near(&self.set, self.guess(word), word);
         // Every listed word is a valid name, so its form is not tested again.
         if place < self.set.len() || is_name(word) {
             Some(place as u8)
         } else {
             None
+        }
+    }
+
+    // Returns the number of the name that the word probably is.
+    #[inline(always)]
+    fn guess(&self, word: &[u8]) -> usize {
+        match word {
+            [first, ..] => self.guesses[*first as usize] as usize,
+            [] => 0,
         }
     }
 
@@ -262,8 +278,30 @@ impl Names {
         ensures err { OnErr result (self.new ≡ self.old) }
     {
         let own = Vec::from_slice(*self.set.allocator(), name)?;
+        let place = self.count();
         self.set.insert(own)?;
+        put_guess(&mut self.guesses, name, place);
         Ok(())
+    }
+}
+
+// Makes this place the guess for words with the name's first byte.
+fn put_guess(guesses: &mut [u8; 256], name: &[u8], place: u8) {
+    if let [first, ..] = name {
+        guesses[*first as usize] = place;
+    }
+}
+
+// Returns the word's place among the names, or their number if it is none of them. This place is compared first.
+#[inline(always)]
+fn place_near(set: &IndexSet<Vec<u8>>, guess: usize, word: &[u8]) -> usize
+    requires { NamesKept set.now.keys }
+    ensures place { result ≡ index_of_name (bytes_of_each set.now.keys) word.now }
+    ensures bound { result ≤ length set.now.keys }
+{
+    match set.get_index(guess) {
+        Some(name) if name.as_slice() == word => guess,
+        _ => place_in(set, word),
     }
 }
 

@@ -10,7 +10,7 @@ pub returns-then-is_name : goal.returns-then-is_name
 returns-then-is_name c =
     let keys = c.self.inside.set.keys in
     let word = c.args.word.now in
-    let place : c.place_in-place.result ≡ index_of_name (bytes_of_each keys) word = c.place_in-place.ensures.place in
+    let place : c.place_near-place.result ≡ index_of_name (bytes_of_each keys) word = c.place_near-place.ensures.place in
     let is : is_name word ≡ true =
     elim c.if-place-len.branch [
       | then-place-len w ↦
@@ -18,5 +18,5 @@ returns-then-is_name c =
           (omega (arith, place, w.if-place-len.true, c.len.ensures.len, length-map keys (λ name. name.items)))
       | else-place-len w ↦ sym w.is_name.ensures ∙ sym w.value-is ∙ c.if-is_name.true
     ] in
-    replica_is_read c.args.self.now word c.place_in-place.result is
+    replica_is_read c.args.self.now word c.place_near-place.result is
     (place ∙ ap (λ (names : List (List ℕ)). index_of_name names word) c.self.view_is)
