@@ -2,6 +2,7 @@ pub mod Pieces
 pub mod Beginnings
 pub mod Numbers
 pub mod Lists
+pub mod ListBytes
 pub mod Operations
 pub mod Commands
 pub mod Formats

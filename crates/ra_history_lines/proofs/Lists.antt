@@ -1,6 +1,6 @@
 -- Lemmas on writing lists of numbers and reading them back.
-use Rattle.std.proofs.Common.{◌≡◌, ℕ, ◌<◌, ◌≢◌, inl, inr, false, eqb, List, [], ◌∷◌, ◌++◌, map, Option, Some, None}
-use Rattle.std.proofs.Common.{refl, sym, ap, subst, ◌∙◌, All, arith, append_assoc}
+use Rattle.std.proofs.Common.{◌≡◌, ℕ, ◌<◌, inl, inr, false, eqb, List, [], ◌∷◌, map, Option, Some, None}
+use Rattle.std.proofs.Common.{refl, sym, ap, subst, ◌∙◌, All, arith}
 use Rattle.std.specs.Prelude.{decimal, bytes_eq, codes, option_map}
 use Rattle.std.specs.List.{join_with_byte, AllByRecursion}
 use Rattle.std.specs.Str.Parse.{AllDigits}
@@ -11,10 +11,10 @@ use Rattle.std.proofs.lemmas.List.Splits.{slice_split_at, slice_split_none}
 use Rattle.std.proofs.lemmas.Option.{option_and_then_some}
 use Rattle.std.proofs.lemmas.Slice.Eq.{bytes_eq-Decides}
 use Rattle.std.proofs.lemmas.Str.Parse.{digit_from_value}
-use Rattle.ra_history_lines.specs.Fields.{IsCutAt, pieces_at}
+use Rattle.ra_history_lines.specs.Fields.{pieces_at}
 use Rattle.ra_history_lines.specs.Grammar.{IsSmall, list_word}
 use Rattle.ra_history_lines.specs.Reading.{number_read, numbers_read, list_read}
-use Rattle.ra_history_lines.proofs.Pieces.{pieces-cut, pieces-whole, pieces-joined, some_piece}
+use Rattle.ra_history_lines.proofs.Pieces.{pieces-joined, some_piece}
 use Rattle.ra_history_lines.proofs.Numbers.{number_read-Some, number_read-decimal}
 
 -- the original of a mapped option's value
@@ -99,35 +99,3 @@ list_read-Some field xs e =
           let found = numbers_found (pieces_at 44 field) xs numbers in
           (joined_is_word field xs found.0, found.1)
     ]
-
--- ---- the loop: the numbers so far, and the remaining bytes
-
-abbrev pub goes_on : List ℕ → List ℕ → Option (List ℕ)
-goes_on items rest = option_map (λ ns. items ++ ns) (numbers_read (pieces_at 44 rest))
-
-behind : (items : List ℕ) (n : ℕ) (o : Option (List ℕ))
-    → option_map (λ ns. items ++ ns) (option_map (λ ns. n ∷ ns) o) ≡ option_map (λ ns. (items ++ n ∷ []) ++ ns) o
-behind items n None = refl
-behind items n (Some ns) = ap (λ (l : List ℕ). Some l) (sym (append_assoc items (n ∷ []) ns))
-
-pub goes_on_next : (items rest front more : List ℕ) (n : ℕ) → IsCutAt 44 rest front more → Some n ≡ number_read front
-    → goes_on items rest ≡ goes_on (items ++ n ∷ []) more
-goes_on_next items rest front more n cut read =
-    rw (pieces-cut 44 rest front more cut, sym read) (behind items n (numbers_read (pieces_at 44 more)))
-
-pub goes_on_no_further : (items rest front more : List ℕ) → IsCutAt 44 rest front more → None ≡ number_read front
-    → goes_on items rest ≡ None
-goes_on_no_further items rest front more cut read = rw (pieces-cut 44 rest front more cut, sym read) refl
-
-pub goes_on_last : (items rest : List ℕ) (n : ℕ) → All (λ b. b ≢ 44) rest → Some n ≡ number_read rest
-    → goes_on items rest ≡ Some (items ++ n ∷ [])
-goes_on_last items rest n whole read = rw (pieces-whole 44 rest whole, sym read) refl
-
-pub goes_on_to_none : (items rest : List ℕ) → All (λ b. b ≢ 44) rest → None ≡ number_read rest
-    → goes_on items rest ≡ None
-goes_on_to_none items rest whole read = rw (pieces-whole 44 rest whole, sym read) refl
-
--- a field other than `-` spells the numbers of its pieces
-pub list_of_pieces : (field : List ℕ) → bytes_eq field (codes "-") ≡ false
-    → list_read field ≡ numbers_read (pieces_at 44 field)
-list_of_pieces field other = rw other refl

@@ -47,7 +47,7 @@ begins-decimal (suc n) lt =
 
 -- ---- digits, one after another
 
-digit_found : (n byte m : ℕ) → digit_read n byte ≡ Some m → (is_ascii_digit byte ≡ true) × (n * 10 + (byte - 48) ≡ m)
+pub digit_found : (n byte m : ℕ) → digit_read n byte ≡ Some m → (is_ascii_digit byte ≡ true) × (n * 10 + (byte - 48) ≡ m)
     × (m < 2 ^ 32)
 digit_found n byte m e =
     let test = is_ascii_digit byte && ltb (n * 10 + (byte - 48)) (2 ^ 32) in
@@ -55,7 +55,7 @@ digit_found n byte m e =
     let parts = and_parts (is_ascii_digit byte) (ltb (n * 10 + (byte - 48)) (2 ^ 32)) t.0 in
     (parts.0, t.1, omega (arith, ltb-true (n * 10 + (byte - 48)) (2 ^ 32) parts.1, t.1))
 
-digit_in : (byte : ℕ) → is_ascii_digit byte ≡ true → (48 ≤ byte) × (byte ≤ 57)
+pub digit_in : (byte : ℕ) → is_ascii_digit byte ≡ true → (48 ≤ byte) × (byte ≤ 57)
 digit_in byte e = let k = and_parts (leb 48 byte) (leb byte 57) e in (leb-true 48 byte k.0, leb-true byte 57 k.1)
 
 in_digit : (byte : ℕ) → 48 ≤ byte → byte ≤ 57 → is_ascii_digit byte ≡ true

@@ -74,6 +74,12 @@ abbrev pub digit_read : ℕ → ℕ → Option ℕ
 digit_read n byte =
     if is_ascii_digit byte && nat_lt (n * 10 + (byte - 48)) (2 ^ 32) then Some (n * 10 + (byte - 48)) else None
 
+-- the number so far, if there is one, followed by this digit, on the same conditions; none if the number so far is zero
+abbrev pub next_digit_read : Option ℕ → ℕ → Option ℕ
+next_digit_read None byte = digit_read 0 byte
+next_digit_read (Some zero) byte = None
+next_digit_read (Some (suc n)) byte = digit_read (suc n) byte
+
 -- the number n followed by all of these digits, on the same conditions
 abbrev pub digits_read : ℕ → List ℕ → Option ℕ
 digits_read n [] = Some n
