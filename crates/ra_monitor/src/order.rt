@@ -61,6 +61,7 @@ impl NamedOrder for Order {
         }
     }
 
+    #[inline(always)]
     fn put(&mut self, label: &Label, seen: &Seen<'_>, place: Place) {
         match self {
             Order::Execution(order) => order.put(label, seen, place),

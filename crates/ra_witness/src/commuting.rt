@@ -117,6 +117,7 @@ impl Commuting {
 }
 
 // Applies the update, if there is one, and returns the number of steps.
+#[inline(always)]
 fn step(state: &mut State, update: &Option<Update>) -> Result<u64, NoMemory>
     requires { CanStep state.old update.now }
     ensures made { OnOk result (state.new ≡ after_step state.old update.now) }

@@ -166,6 +166,7 @@ impl Effects {
     /// # Errors
     ///
     /// `NoMemory` if allocation fails; the same history is represented.
+    #[inline(always)]
     pub fn add(
         &mut self,
         label: &Label,
