@@ -37,7 +37,7 @@ def arrows_of(picture):
 
 
 def says(case, arrow, label):
-    """What a reader of the drawing is told of an arrow to this label."""
+    """What the drawing says of an arrow to this label."""
     claim = arrow.claim
     other = " or another one" if len(claim["after"]) > 1 else ""
     front = f"line {case.line_of(claim['before'])} must come before line {case.line_of(label)}{other}"

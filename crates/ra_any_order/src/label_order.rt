@@ -46,7 +46,7 @@ pub fn is_order_of_labels(alloc: Global, tracker: &Tracker, order: &[u32]) -> Re
     Ok(true)
 }
 
-// Returns `true` if the label stands behind the other one, or if there is no other one.
+// Returns `true` if the label comes after the other one, or if there is no other one.
 fn comes_after(positions: &[usize], before: Option<u32>, label: u32) -> bool
     ensures { result ≡ comes_after positions.now before label }
 {
@@ -56,7 +56,7 @@ fn comes_after(positions: &[usize], before: Option<u32>, label: u32) -> bool
     }
 }
 
-// Returns `true` if the label stands behind the newest update that it sees of each replica.
+// Returns `true` if the label comes after the newest update that it sees of each replica.
 fn comes_after_seen(tracker: &Tracker, positions: &[usize], label: u32) -> bool
     requires { label < labels_in tracker.now.now }
     ensures behind { (past : History) (order : List ℕ) → IsVisibilityOf tracker.now.now past

@@ -299,7 +299,7 @@ fn a_counter_has_no_other_order(rt: HostRuntime) -> Result<(), Fail> {
     Ok(())
 }
 
-// Of two writes, the second of which sees the first one, and a read behind them, only one order explains the read.
+// Of two writes, the second of which sees the first one, and a read after them, only one order explains the read.
 #[test]
 fn orders_of_a_register_are_checked(rt: HostRuntime) -> Result<(), Fail> {
     let alloc = rt.alloc();
@@ -319,7 +319,7 @@ fn orders_of_a_register_are_checked(rt: HostRuntime) -> Result<(), Fail> {
 }
 
 // Of the two insertions of an RGA the one that is listed first comes last. Where the read stands matters as well: it
-// comes behind what it sees and behind the earlier label of its replica.
+// comes after what it sees and after the earlier label of its replica.
 #[test]
 fn orders_of_an_rga_are_checked(rt: HostRuntime) -> Result<(), Fail> {
     let alloc = rt.alloc();
