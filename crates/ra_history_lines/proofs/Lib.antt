@@ -1,14 +1,17 @@
 pub mod Pieces
+pub mod Places
 pub mod Beginnings
 pub mod Numbers
 pub mod Lists
 pub mod ListBytes
+pub mod FieldBytes
 pub mod Operations
 pub mod Commands
 pub mod Formats
 pub mod Heads
 pub mod NameLists
 pub mod NewNames
+pub mod LedLines
 pub mod AddedNames
 pub mod EndLines
 pub mod TheoremIndex

@@ -12,7 +12,7 @@ use Rattle.ra_history_lines.proofs.Numbers.{digit_found, digit_in}
 use Rattle.ra_history_lines.proofs.Pieces.{some_piece}
 
 -- the same function of a value that an option has
-on_value : {X Y : Type 0} (f g : X → Option Y) (o : Option X) → ((x : X) → o ≡ Some x → f x ≡ g x)
+pub on_value : {X Y : Type 0} (f g : X → Option Y) (o : Option X) → ((x : X) → o ≡ Some x → f x ≡ g x)
     → option_and_then f o ≡ option_and_then g o
 on_value f g None same = refl
 on_value f g (Some x) same = same x refl
@@ -20,7 +20,7 @@ on_value f g (Some x) same = same x refl
 -- ---- the number of one piece
 
 -- the number of the first bytes, followed by the digits of the others
-abbrev number_with : Option ℕ → List ℕ → Option ℕ
+abbrev pub number_with : Option ℕ → List ℕ → Option ℕ
 number_with so_far [] = so_far
 number_with so_far (byte ∷ bytes) = option_and_then (λ n. number_with (Some n) bytes) (next_digit_read so_far byte)
 
@@ -47,7 +47,7 @@ with_digit byte bytes digit other =
     on_value (λ m. number_with (Some m) bytes) (λ m. digits_read m bytes) (digit_read 0 byte)
     (λ m read. behind_digits m bytes (omega (arith, digit_in byte digit, (digit_found 0 byte m read).1)))
 
-number_of_piece : (bytes : List ℕ) → number_with None bytes ≡ number_read bytes
+pub number_of_piece : (bytes : List ℕ) → number_with None bytes ≡ number_read bytes
 unfolding number_read
 number_of_piece [] = refl
 number_of_piece (byte ∷ bytes) =

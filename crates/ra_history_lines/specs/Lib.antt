@@ -6,3 +6,4 @@ pub mod Reading
 pub mod ListBytes
 pub mod Lines
 pub mod Replies
+pub mod FieldBytes

@@ -1,6 +1,7 @@
 //! The parser of lists.
 ghost use Rattle.std.specs.Prelude.{◌≡◌, ◌<◌, ◌≤◌, ◌+◌, length, None, Some, IfOk, IfSome, MatchOption};
 ghost use Rattle.ra_history_lines.specs.ListBytes.{numbers_with, numbers_behind, EndsNumber};
+ghost use Rattle.ra_history_lines.specs.FieldBytes.{number_in_field, field_behind};
 ghost use Rattle.ra_history_lines.specs.Reading.{list_read};
 
 use crate::word::is_word;
@@ -62,12 +63,18 @@ fn commas_of_chunk(chunk: &[u8]) -> u8 {
     count
 }
 
-// Returns the number that the first bytes encode, as many as belong to it, and what follows them. Returns `None` if no
-// list begins with these bytes.
+/// Returns the number that the first bytes encode, as many as belong to it, and what follows them. Returns `None` if no
+/// number begins these bytes.
+///
+/// # Complexity
+///
+/// O(number of the digits).
 #[inline(always)]
-fn first_number(bytes: &[u8]) -> Option<(u32, &[u8])>
+pub fn first_number(bytes: &[u8]) -> Option<(u32, &[u8])>
     ensures read { MatchOption result (numbers_with None bytes.now ≡ None)
         (λ found. numbers_with None bytes.now ≡ numbers_with (Some found.0) found.1.now) }
+    ensures field { MatchOption result (number_in_field None bytes.now ≡ None)
+        (λ found. number_in_field None bytes.now ≡ number_in_field (Some found.0) found.1.now) }
     ensures ends { IfSome result (λ found. EndsNumber found.0 found.1.now) }
     ensures shorter { IfSome result (λ found. length found.1.now + 1 ≤ length bytes.now) }
 {
@@ -91,6 +98,7 @@ fn first_number(bytes: &[u8]) -> Option<(u32, &[u8])>
 fn with_digits(first: u64, more: &[u8]) -> (u64, &[u8])
     requires { first < 10 }
     ensures read { numbers_behind first more.now ≡ numbers_behind result.0 result.1.now }
+    ensures field { field_behind first more.now ≡ field_behind result.0 result.1.now }
     ensures ends { EndsNumber result.0 result.1.now }
     ensures shorter { length result.1.now ≤ length more.now }
 {

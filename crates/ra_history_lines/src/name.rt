@@ -3,6 +3,7 @@ ghost use Rattle.std.specs.Prelude.{◌≡◌, ◌≤◌, ℕ, ◌++◌, ◌∷�
 ghost use Rattle.std.specs.List.{list_all, list_any};
 ghost use Rattle.ra_history_lines.specs.Grammar as grammar;
 ghost use Rattle.ra_history_lines.specs.Grammar.{has_form_of_name, index_of_name, ListsNames, AreNames};
+ghost use Rattle.ra_history_lines.specs.FieldBytes.{IsLedBy};
 ghost use Rattle.ra_history_lines.specs.Reading.{replica_read};
 ghost use Rattle.ra_history_lines.specs.NamesKept.{NamesKept};
 ghost use Rattle.ra_history_lines.specs.Names.{AreNamesSoFar, MayJoin, bytes_of_each, texts_of, is_bad_behind, AreDistinctNames, IsFirstBad, IsFaultOf, StopsAdding};
@@ -10,7 +11,7 @@ ghost use Rattle.ra_history_lines.specs.declared.format.Format.TheVariants.{Rah2
 ghost use Rattle.ra_history_lines.specs.declared.fault.LineFault.TheVariants.{Syntax};
 
 use crate::fault::{LineFault, NamesFault};
-use crate::fields::Fields;
+use crate::fields::{Fields, behind_word};
 use crate::format::Format;
 use crate::limits::{LONGEST_NAME, MOST_NAMES};
 use crate::word::is_word;
@@ -48,8 +49,9 @@ fn may_follow(bytes: &[u8]) -> bool
 /// The names of a history's replicas, indexed by replica number. Contracts view it as the list of the names.
 pub struct Names {
     set: IndexSet<Vec<u8>>,
-    // For each byte, the number of the last added name that begins with it, or 0 if none does. The name is compared
-    // with the word before the number is used, so most words are found without a hash.
+    // For each number of two first bytes (`mark_of_name`), the number of the last added name that begins with such
+    // bytes, or 0 if none does. The name is compared with the word before the number is used, so most words are found
+    // without a hash.
     guesses: [u8; 256],
 }
 
@@ -190,7 +192,7 @@ impl Names {
     /// # Complexity
     ///
     /// O(length of the word), whatever the number of names: a comparison, and a hash lookup unless the word is the name
-    /// with its first byte that was added last.
+    /// with its first two bytes that was added last.
     #[inline(always)]
     pub fn replica(&self, word: &[u8]) -> Option<u8>
         // The result is the position of the word among the names, the number of names if it is a valid name of no
@@ -206,13 +208,31 @@ impl Names {
         }
     }
 
+    /// Returns the replica with whose name and a space the line begins, and what follows the space. Returns `None` also
+    /// for lines of which only a hash finds the name.
+    ///
+    /// # Complexity
+    ///
+    /// O(length of the name): a comparison.
+    #[inline(always)]
+    pub fn lead<'a>(&self, line: &'a [u8]) -> Option<(u8, &'a [u8])>
+        // The line begins with the name of the replica in the result, and the bytes in it follow the space behind it.
+        ensures { IfSome result (λ found. IsLedBy self.now line.now found.0 found.1.now) }
+    {
+        let place = self.guess(line);
+        let Some(name) = self.set.get_index(place) else {
+            return None;
+        };
+        match behind_word(line, name.as_slice()) {
+            Some(behind) => Some((place as u8, behind)),
+            None => None,
+        }
+    }
+
     // Returns the number of the name that the word probably is.
     #[inline(always)]
     fn guess(&self, word: &[u8]) -> usize {
-        match word {
-            [first, ..] => self.guesses[*first as usize] as usize,
-            [] => 0,
-        }
+        self.guesses[mark_of_name(word) as usize] as usize
     }
 
     /// Adds a name at the end.
@@ -285,10 +305,19 @@ impl Names {
     }
 }
 
-// Makes this place the guess for words with the name's first byte.
+// Makes this place the guess for words that begin with the name's first two bytes.
 fn put_guess(guesses: &mut [u8; 256], name: &[u8], place: u8) {
-    if let [first, ..] = name {
-        guesses[*first as usize] = place;
+    guesses[mark_of_name(name) as usize] = place;
+}
+
+// Returns a number that the first two bytes determine. A name of one letter has the number of a line in which a space
+// follows it.
+#[inline(always)]
+fn mark_of_name(word: &[u8]) -> u8 {
+    match word {
+        [first, second, ..] => first.wrapping_add(second.wrapping_mul(37)),
+        [first] => first.wrapping_add(b' '.wrapping_mul(37)),
+        [] => 0,
     }
 }
 

@@ -72,8 +72,16 @@ fn list_operation(
     }
 }
 
-// A read is always of the history's own kind.
-fn read(alloc: Global, kind: Kind, fields: &mut Fields<'_>) -> Result<Option<Op>, NoMemory>
+/// Reads what follows the word `read`: a read of the history's own kind. Returns `None` if the fields encode none.
+///
+/// # Errors
+///
+/// `NoMemory` if allocation fails, which only a list needs.
+///
+/// # Complexity
+///
+/// O(length of the field).
+pub fn read(alloc: Global, kind: Kind, fields: &mut Fields<'_>) -> Result<Option<Op>, NoMemory>
     ensures read { IfOk result (λ op. Reads (read_first kind fields.old) op fields.new) }
     ensures memory { OnErr result (reads_list kind ≡ true) }
 {
@@ -155,19 +163,15 @@ fn value(field: &[u8]) -> Option<Option<u32>>
     }
 }
 
-fn next_number(fields: &mut Fields<'_>) -> Option<u32>
-    ensures { Reads (number_first fields.old) result fields.new }
-{
-    match fields.take() {
-        Some(field) => number(field),
-        None => None,
-    }
-}
-
-fn write(kind: Kind, fields: &mut Fields<'_>) -> Option<Op>
+/// Reads what follows the word `write`. Returns `None` if the next field is no number.
+///
+/// # Complexity
+///
+/// O(length of the fields).
+pub fn write(kind: Kind, fields: &mut Fields<'_>) -> Option<Op>
     ensures { Reads (write_first kind fields.old) result fields.new }
 {
-    match next_number(fields) {
+    match fields.take_number() {
         Some(value) if kind == Kind::MvRegister => Some(Op::MvWrite(value)),
         Some(value) => Some(Op::Write(value)),
         None => None,
@@ -185,10 +189,16 @@ fn update(word: &[u8]) -> Option<Op>
     }
 }
 
-fn add(fields: &mut Fields<'_>) -> Option<Op>
+/// Reads what follows the word `add`: an element, and the identifier of an OR-Set's. Returns `None` if they are no
+/// numbers.
+///
+/// # Complexity
+///
+/// O(length of the fields).
+pub fn add(fields: &mut Fields<'_>) -> Option<Op>
     ensures { Reads (add_first fields.old) result fields.new }
 {
-    let Some(element) = next_number(fields) else {
+    let Some(element) = fields.take_number() else {
         return None;
     };
     match fields.take_marked() {
@@ -200,10 +210,20 @@ fn add(fields: &mut Fields<'_>) -> Option<Op>
     }
 }
 
-fn remove(alloc: Global, kind: Kind, fields: &mut Fields<'_>) -> Result<Option<Op>, NoMemory>
+/// Reads what follows the word `remove`: an element, and the identifiers that an OR-Set's removal saw. Returns `None`
+/// if they are no numbers.
+///
+/// # Errors
+///
+/// `NoMemory` if allocation fails, which only identifiers need.
+///
+/// # Complexity
+///
+/// O(length of the fields).
+pub fn remove(alloc: Global, kind: Kind, fields: &mut Fields<'_>) -> Result<Option<Op>, NoMemory>
     ensures { IfOk result (λ op. Reads (remove_first kind fields.old) op fields.new) }
 {
-    let Some(element) = next_number(fields) else {
+    let Some(element) = fields.take_number() else {
         return Ok(None);
     };
     let Some(word) = fields.take_marked() else {
@@ -230,13 +250,18 @@ fn plain_removal(kind: Kind, element: u32) -> Op
     }
 }
 
-fn after(fields: &mut Fields<'_>) -> Option<Op>
+/// Reads what follows the word `after`: an anchor and an element. Returns `None` if they are no numbers.
+///
+/// # Complexity
+///
+/// O(length of the fields).
+pub fn after(fields: &mut Fields<'_>) -> Option<Op>
     ensures { Reads (after_first fields.old) result fields.new }
 {
-    let Some(anchor) = next_number(fields) else {
+    let Some(anchor) = fields.take_number() else {
         return None;
     };
-    match next_number(fields) {
+    match fields.take_number() {
         Some(element) => Some(Op::After { anchor, element }),
         None => None,
     }
@@ -245,13 +270,13 @@ fn after(fields: &mut Fields<'_>) -> Option<Op>
 fn insert(fields: &mut Fields<'_>) -> Option<Op>
     ensures { Reads (insert_first fields.old) result fields.new }
 {
-    let Some(left) = next_number(fields) else {
+    let Some(left) = fields.take_number() else {
         return None;
     };
-    let Some(element) = next_number(fields) else {
+    let Some(element) = fields.take_number() else {
         return None;
     };
-    match next_number(fields) {
+    match fields.take_number() {
         Some(right) => Some(Op::List(ListOp::Insert(Insertion {
             left,
             element,

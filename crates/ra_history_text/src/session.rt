@@ -1,5 +1,7 @@
 //! A check that receives its text piece by piece.
-ghost use Rattle.std.specs.Prelude.{◌≡◌, ◌≢◌, ◌++◌, ◌∷◌, [], All, Ok, IfErr, IfOk, MatchOption, OnErr, OnOk};
+ghost use Rattle.std.specs.Prelude.{◌≡◌, ◌≢◌, ◌++◌, ◌∷◌, [], All, Ok, Some, IfErr, IfOk, MatchOption, OnErr, OnOk};
+ghost use Rattle.ra_history_lines.specs.Grammar.{Spells, fields_of};
+ghost use Rattle.ra_history_lines.specs.Reading.{command_read};
 ghost use Rattle.ra_history_text.specs.Recording.{said_of};
 ghost use Rattle.ra_history_text.specs.Output.{replies_of};
 ghost use Rattle.ra_history_text.specs.Sessions.{said_at, AddsReplies, StopsLine, StopsExtending, StopsClosing, StopsInside, EndsText, StopsEnding, SaysNoHistory, IsToldBy, format_said, names_said};
@@ -9,12 +11,12 @@ ghost use Rattle.ra_history_text.specs.Text.{text_start, line_start, next_line, 
 use crate::fault::CheckFault;
 use crate::limits::LONGEST_LINE;
 use crate::recording::Recording;
-use ra_history_lines::command::command;
-use ra_history_lines::fields::cut_at;
+use ra_history_lines::command::{command, delivery_in};
+use ra_history_lines::fields::cut_near;
 use ra_history_lines::kind_line::head_of;
 use ra_history_lines::reply::{put_end, put_reply};
 use ra_history_lines::{Format, Names};
-use ra_labels::Kind;
+use ra_labels::{Command, Kind};
 use ra_monitor::{Monitor, Report};
 use std::alloc::Global;
 use std::marker::Model;
@@ -117,8 +119,23 @@ fn after_names(alloc: Global, format: Format, kind: Kind, line: &[u8]) -> Result
     Ok(Stage::OfHistory(history))
 }
 
-// Takes a line after the first two.
+// Takes a line after the first two. Most are deliveries, whose command is recorded without a copy.
 fn take_command(history: &mut Recording, line: &[u8], out: &mut Vec<u8>) -> Result<(), CheckFault>
+    ensures taken { OnOk result (line_taken (said_of history.old) line.now ≡ Ok (line_start (said_of history.new))) }
+    ensures replied { OnOk result (AddsReplies (said_of history.old) (said_of history.new)
+        out.old.items out.new.items) }
+    ensures fault { IfErr result (StopsLine (said_of history.old) line.now) }
+    ensures err { OnErr result (out.new.items ≡ out.old.items) }
+{
+    match delivery_in(history.names(), line) {
+        Some((replica, label)) => record(history, line, Command::Deliver { replica, label }, out),
+        None => take_other(history, line, out),
+    }
+}
+
+// Takes a line of any command. It is not inlined: its stack frame would be set up for each delivery.
+#[inline(never)]
+fn take_other(history: &mut Recording, line: &[u8], out: &mut Vec<u8>) -> Result<(), CheckFault>
     ensures taken { OnOk result (line_taken (said_of history.old) line.now ≡ Ok (line_start (said_of history.new))) }
     ensures replied { OnOk result (AddsReplies (said_of history.old) (said_of history.new)
         out.old.items out.new.items) }
@@ -135,6 +152,27 @@ fn take_command(history: &mut Recording, line: &[u8], out: &mut Vec<u8>) -> Resu
     let Some(command) = found else {
         return Err(CheckFault::Syntax(history.line()));
     };
+    record(history, line, command, out)
+}
+
+// Records the command of the line, and appends the line of its reply.
+#[inline(always)]
+fn record(
+    history: &mut Recording,
+    line: &[u8],
+    command: Command,
+    out: &mut Vec<u8>,
+) -> Result<(), CheckFault>
+    requires read { command_read history.old.format history.old.kind (history.old.first ++ history.old.joined)
+        (fields_of line.now) ≡ Some command }
+    requires spells { Spells history.old.format history.old.kind (history.old.first ++ history.old.joined)
+        line.now command }
+    ensures taken { OnOk result (line_taken (said_of history.old) line.now ≡ Ok (line_start (said_of history.new))) }
+    ensures replied { OnOk result (AddsReplies (said_of history.old) (said_of history.new)
+        out.old.items out.new.items) }
+    ensures fault { IfErr result (StopsLine (said_of history.old) line.now) }
+    ensures err { OnErr result (out.new.items ≡ out.old.items) }
+{
     let answer = history.take(line, command)?;
     put_reply(out, answer)?;
     Ok(())
@@ -215,7 +253,7 @@ impl Session {
         ensures fault { IfErr result (StopsInside self.old piece.now out.old.items out.new.items) }
     {
         let mut rest = piece;
-        while let Some((front, behind)) = cut_at(b'\n', rest) {
+        while let Some((front, behind)) = cut_near(b'\n', rest) {
             self.close_line(front, out)?;
             rest = behind;
         }
