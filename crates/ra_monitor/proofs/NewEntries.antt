@@ -1,7 +1,7 @@
 -- Lemmas on the monitor's invariant after an entry is appended to its log.
 use Rattle.std.proofs.Common.{◌≡◌, ℕ, ◌+◌, ◌<◌, ◌≤◌, cond, [], ◌∷◌, ◌++◌, length, sym, ap, ◌∙◌, arith, length-append}
 use Rattle.ra_labels.specs.Answer.{answer_of, records_after}
-use Rattle.ra_monitor.specs.declared.monitor.Monitor.TheInside.{Inside}
+use Rattle.ra_monitor.specs.declared.parts.Parts.{Parts}
 use Rattle.ra_monitor.specs.Replies.{is_refused}
 use Rattle.ra_monitor.specs.Monitor.{MonitorEntry, answer_after, records_of, refused_count, IsLegalLog, IsNextTicket}
 use Rattle.ra_monitor.specs.History.{Represents, history_in}
@@ -10,12 +10,12 @@ use Rattle.ra_monitor.specs.Kept.{monitor_of, MonitorKept}
 use Rattle.ra_monitor.proofs.Legal.{legal-push, records_of-push, refused_count-push}
 
 -- the log stays legal
-pub legal_after : (m : Inside) (entry : MonitorEntry) → MonitorKept m → IsNextTicket (monitor_of m) entry.ticket
+pub legal_after : (m : Parts) (entry : MonitorEntry) → MonitorKept m → IsNextTicket (monitor_of m) entry.ticket
     → entry.reply ≡ answer_of m.setup.kind m.setup.replicas (records_of m.setup m.log.items) entry.command
     → IsLegalLog m.setup (m.log.items ++ entry ∷ [])
 legal_after m entry kept next answered = legal-push (answer_after m.setup) [] m.log.items entry kept.legal (answered, next)
 
-pub kept_after : (m n : Inside) (entry : MonitorEntry) → MonitorKept m → IsNextTicket (monitor_of m) entry.ticket → length m.log.items < m.setup.limit
+pub kept_after : (m n : Parts) (entry : MonitorEntry) → MonitorKept m → IsNextTicket (monitor_of m) entry.ticket → length m.log.items < m.setup.limit
     → entry.reply ≡ answer_of m.setup.kind m.setup.replicas (records_of m.setup m.log.items) entry.command
     → n.setup ≡ m.setup → n.log.items ≡ m.log.items ++ entry ∷ []
     → Represents n.history (history_in m.setup (records_after m.setup.kind m.setup.replicas (records_of m.setup m.log.items) entry.command))

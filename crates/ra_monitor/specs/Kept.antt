@@ -1,7 +1,7 @@
--- What the fields of a monitor represent, and its representation invariant.
+-- What the parts of a monitor represent, and its representation invariant.
 use Rattle.std.specs.Prelude.{◌≡◌, ℕ, ◌-◌, ◌≤◌, length, min, vec_capacity}
 use Rattle.std.specs.Global as global
-use Rattle.ra_monitor.specs.declared.monitor.Monitor.TheInside.{Inside}
+use Rattle.ra_monitor.specs.declared.parts.Parts.{Parts}
 use Rattle.ra_monitor.specs.Monitor.{Monitor, MonitorEntry, records_of, refused_count, IsLegalLog}
 use Rattle.ra_monitor.specs.History.{history_in, Represents}
 use Rattle.ra_monitor.specs.Limits.{AreReplicas, IsLimit}
@@ -10,10 +10,10 @@ use Rattle.ra_monitor.specs.Limits.{AreReplicas, IsLimit}
 abbrev pub room_in : ℕ → global.Vec MonitorEntry → ℕ
 room_in limit log = min (vec_capacity log - length log.items) (limit - length log.items)
 
-abbrev pub monitor_of : Inside → Monitor
+abbrev pub monitor_of : Parts → Monitor
 monitor_of m = record { setup = m.setup; log = m.log.items; room = room_in m.setup.limit m.log }
 
-pub record MonitorKept (m : Inside) : Type 0 where
+pub record MonitorKept (m : Parts) : Type 0 where
   pub replicas : AreReplicas m.setup.replicas
   pub joined : AreReplicas m.history.replicas
   pub limit : IsLimit m.setup.limit

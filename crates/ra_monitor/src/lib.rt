@@ -16,6 +16,7 @@ mod faults;
 mod history;
 mod monitor;
 mod order;
+mod parts;
 mod report;
 mod reporter;
 mod setup;

@@ -1,5 +1,5 @@
 //! The single-threaded monitor: a log, and the representation of its history.
-ghost use Rattle.std.specs.Prelude.{◌≡◌, ℕ, ◌+◌, ◌-◌, ◌<◌, ◌≤◌, ◌++◌, ◌∷◌, ◌↔◌, [], length, map, min, cond, vec_len, vec_capacity, IsTrue, IfSome, IfOk, IsOk, OnOk, IsErrOf, MatchOption};
+ghost use Rattle.std.specs.Prelude.{◌≡◌, ℕ, ◌+◌, ◌-◌, ◌<◌, ◌≤◌, ◌↔◌, [], length, map, min, IsTrue, IfSome, IfOk, IsOk, OnOk, IsErrOf, MatchOption};
 ghost use Rattle.ra_labels.specs.Records.{label_count, replica_count};
 ghost use Rattle.ra_labels.specs.Edges.{IsCycle};
 ghost use Rattle.ra_labels.specs.ListHistory.{required_edges};
@@ -13,11 +13,10 @@ ghost use Rattle.ra_journal.specs.Log.{last_ticket_of};
 ghost use Rattle.ra_labels.specs.declared.kind.Kind.TheVariants as kinds;
 ghost use Rattle.ra_witness.specs.ListOrder.{Explains};
 ghost use Rattle.ra_witness.specs.Sequence.{ref_of};
-ghost use Rattle.ra_monitor.specs.Replies.{is_refused};
 ghost use Rattle.ra_monitor.specs.Steps.{IsStep};
 
 use crate::faults::NewFault;
-use crate::history::TrackedHistory;
+use crate::parts::Parts;
 use crate::report::Report;
 use crate::setup::Setup;
 use ra_journal::{Entry, Journal, MOST_ENTRIES, StepFault};
@@ -26,12 +25,10 @@ use ra_witness::PartRef;
 use std::alloc::Global;
 use std::marker::Model;
 
-/// The single-threaded monitor of one history.
+/// The single-threaded monitor of one history. It is one box, so a move copies a pointer: the ticket lock moves it out
+/// of its slot and back at each call.
 pub struct Monitor {
-    setup: Setup,
-    log: Vec<Entry<Command, Reply>>,
-    history: TrackedHistory,
-    refused: u32,
+    parts: Box<Parts>,
 }
 
 impl Model for Monitor {
@@ -41,20 +38,15 @@ impl Model for Monitor {
 
     ghost use Rattle.ra_monitor.specs.Kept.{monitor_of, MonitorKept};
 
-    ghost view = { λ m. monitor_of m };
+    ghost view = { λ m. monitor_of m.parts.value };
 
-    ghost invariant = { λ m. MonitorKept m };
+    ghost invariant = { λ m. MonitorKept m.parts.value };
 }
 
 impl Drop for Monitor {
     // Written out, so that code that drops a monitor calls this function, instead of the drop of each part.
     fn drop(self) {
-        let Monitor {
-            setup: _,
-            log: _,
-            history: _,
-            refused: _,
-        } = self;
+        let Monitor { parts: _ } = self;
     }
 }
 
@@ -93,13 +85,8 @@ impl Monitor {
             replicas,
             limit,
         };
-        match TrackedHistory::new(alloc, &setup) {
-            Ok(history) => Ok(Monitor {
-                setup,
-                log: Vec::new(alloc),
-                history,
-                refused: 0,
-            }),
+        match Parts::new(alloc, &setup) {
+            Ok(parts) => Ok(Monitor { parts }),
             Err(NoMemory) => Err(NewFault::NoMemory),
         }
     }
@@ -111,7 +98,7 @@ impl Monitor {
         // Its number of replicas is from 1 to 64, and its limit from 1 to 1,048,576.
         ensures range { AreReplicas result.replicas × IsLimit result.limit }
     {
-        self.setup
+        self.parts.setup
     }
 
     /// Returns the log, the oldest entry first.
@@ -124,7 +111,7 @@ impl Monitor {
         // The log has at most as many entries as its limit, which is from 1 to 1,048,576.
         ensures fits { (length self.now.log ≤ self.now.setup.limit) × IsLimit self.now.setup.limit }
     {
-        self.log.as_slice()
+        self.parts.log.as_slice()
     }
 
     /// Returns the log, and consumes `self`.
@@ -135,13 +122,8 @@ impl Monitor {
         // increase strictly.
         ensures legal { IsLegalLog self.setup self.log }
     {
-        let Monitor {
-            setup: _,
-            log,
-            history: _,
-            refused: _,
-        } = self;
-        log
+        let Monitor { parts } = self;
+        Box::into_inner(parts).into_log()
     }
 
     /// Returns the number of replicas so far, those that joined included. Does not allocate.
@@ -151,7 +133,7 @@ impl Monitor {
         // The number is from 1 to 64.
         ensures range { AreReplicas result }
     {
-        self.history.replicas
+        self.parts.history.replicas
     }
 
     /// Returns `true` if the label was delivered to the replica so far: an update that it issued, received or joined
@@ -165,14 +147,14 @@ impl Monitor {
         // replica.
         ensures { result ≡ has_delivered (records_of self.now.setup self.now.log) replica label }
     {
-        self.history.has_delivered(replica, label)
+        self.parts.history.has_delivered(replica, label)
     }
 
     /// Returns the number of steps so far: the updates applied to the states of replicas, at the issuer and at
     /// receivers. No clause of this crate states it; those of `ra_witness` do (`counted`, `settled`, `few_steps`). It
     /// stops growing at 2^64 - 1. Does not allocate.
     pub fn steps(&self) -> u64 {
-        self.history.witness.steps()
+        self.parts.history.witness.steps()
     }
 
     /// Returns the number of entries, within the limit, that can be logged before the log has to allocate. Does not
@@ -183,8 +165,9 @@ impl Monitor {
         // The room never exceeds what the limit leaves.
         ensures within { length self.now.log + result ≤ self.now.setup.limit }
     {
-        let left = self.setup.limit as usize - self.log.len();
-        let free = self.log.capacity() - self.log.len();
+        let parts = &*self.parts;
+        let left = parts.setup.limit as usize - parts.log.len();
+        let free = parts.log.capacity() - parts.log.len();
         free.min(left) as u32
     }
 
@@ -211,10 +194,11 @@ impl Monitor {
         // The setup never changes.
         ensures same_setup { self.new.setup ≡ self.old.setup }
     {
-        let left = self.setup.limit as usize - self.log.len();
+        let parts = &mut *self.parts;
+        let left = parts.setup.limit as usize - parts.log.len();
         let more = left.min(entries as usize);
-        if self.log.capacity() - self.log.len() < more {
-            self.log.reserve(more)?;
+        if parts.log.capacity() - parts.log.len() < more {
+            parts.log.reserve(more)?;
         }
         Ok(())
     }
@@ -236,7 +220,7 @@ impl Monitor {
         ensures linearizes { let records = records_before_fault_in self.now.setup self.now.log in OnOk result
             (IsRaLinearization self.now.setup.kind records (named_sequence self.now.setup.kind records)) }
     {
-        self.history.sequence()
+        self.parts.history.sequence()
     }
 
     /// Returns the elements of a list, removed ones too, in one order that explains the labels before a fault, or all
@@ -260,7 +244,7 @@ impl Monitor {
             IfOk result (λ found. IfSome found (λ order. IsListLinearization order.items (must_precede records) records
             (named_sequence kinds.List records))) }
     {
-        self.history.list_order()
+        self.parts.history.list_order()
     }
 
     /// Returns a cycle of the edges that the labels require, if the kind is a list and the fault's cause is the order,
@@ -280,7 +264,7 @@ impl Monitor {
             (λ cycle. IsOrderFault self.now.setup self.now.log
             × IsCycle (required_edges (records_of self.now.setup self.now.log)) cycle.now) }
     {
-        match &self.history.cycle {
+        match &self.parts.history.cycle {
             Some(cycle) => Some(cycle.as_slice()),
             None => None,
         }
@@ -303,12 +287,13 @@ impl Monitor {
         ensures final_fault { IsTrue (is_of_any_order self.now.setup.kind)
             → IsFinalFault self.now.setup self.now.log result.fault }
     {
+        let parts = &*self.parts;
         Report {
-            kind: self.setup.kind,
-            calls: self.log.len() as u32,
-            labels: self.history.labels,
-            refused: self.refused,
-            fault: self.history.fault,
+            kind: parts.setup.kind,
+            calls: parts.log.len() as u32,
+            labels: parts.history.labels,
+            refused: parts.refused,
+            fault: parts.history.fault,
         }
     }
 }
@@ -334,17 +319,17 @@ impl Journal for Monitor {
 
     /// Returns the largest number of entries of the log.
     fn limit(&self) -> u32 {
-        self.setup.limit
+        self.parts.setup.limit
     }
 
     /// Returns the number of entries of the log.
     fn calls(&self) -> u32 {
-        self.log.len() as u32
+        self.parts.log.len() as u32
     }
 
     /// Returns the label of the fault, if there is one.
     fn fault(&self) -> Option<u32> {
-        match self.history.fault {
+        match self.parts.history.fault {
             Some(fault) => Some(fault.label),
             None => None,
         }
@@ -357,7 +342,7 @@ impl Journal for Monitor {
         // Every greater ticket may be that of the next step.
         ensures next { (ticket : ℕ) → IfSome result (λ last. last < ticket) → IsNextTicket self.now ticket }
     {
-        match self.log.as_slice().last() {
+        match self.parts.log.as_slice().last() {
             Some(entry) => Some(entry.ticket),
             None => None,
         }
@@ -380,59 +365,6 @@ impl Journal for Monitor {
         // The call returns what every report to a monitor does: of the reply, the log, errors and room.
         ensures step { IsStep self.old self.new pass ticket command result }
     {
-        if self.log.len() == self.setup.limit as usize {
-            return Err(StepFault::Full(command));
-        }
-        if reserve_one(&mut self.log).is_err() {
-            return Err(StepFault::NoMemory(command));
-        }
-        let mut command = command;
-        match self.history.answer(&self.setup, &mut command) {
-            Ok(reply) => {
-                self.refused += refusals(reply);
-                let entry = Entry {
-                    pass,
-                    ticket,
-                    command,
-                    reply,
-                };
-                append(&mut self.log, entry);
-                Ok(reply)
-            }
-            Err(NoMemory) => Err(StepFault::NoMemory(command)),
-        }
+        self.parts.step(pass, ticket, command)
     }
-}
-
-// Returns the number of rejections in the reply: one or none.
-fn refusals(reply: Reply) -> u32
-    ensures { result ≡ cond (is_refused reply) 1 0 }
-{
-    match reply {
-        Reply::Refused(_) => 1,
-        Reply::Ok(_) | Reply::Got(_) | Reply::Joined(_) | Reply::Yes(_) | Reply::No { .. } => 0,
-    }
-}
-
-// Reserves room for one more entry, unless there is some.
-fn reserve_one(log: &mut Vec<Entry<Command, Reply>>) -> Result<(), NoMemory>
-    ensures items { log.new.items ≡ log.old.items }
-    ensures room { OnOk result (vec_len log.new < vec_capacity log.new) }
-    ensures there { vec_len log.old < vec_capacity log.old
-        → IsOk result × (vec_capacity log.new ≡ vec_capacity log.old) }
-    ensures capacity { vec_capacity log.old ≤ vec_capacity log.new }
-{
-    if log.len() == log.capacity() {
-        log.reserve(1)?;
-    }
-    Ok(())
-}
-
-// Appends the entry within the reserved room.
-fn append(log: &mut Vec<Entry<Command, Reply>>, entry: Entry<Command, Reply>)
-    requires { vec_len log.old < vec_capacity log.old }
-    ensures items { log.new.items ≡ log.old.items ++ entry ∷ [] }
-    ensures capacity { vec_capacity log.new ≡ vec_capacity log.old }
-{
-    log.push_reserved(entry);
 }

@@ -17,11 +17,11 @@ use Rattle.ra_monitor.proofs.monitor.Monitor.list_order.Goals as goal
 
 pub returns-clause-explains : goal.returns-clause-explains
 returns-clause-explains c =
-    let m = c.self.inside in
+    let m = c.self.inside.parts.value in
     subst (λ (l : Monitor). IfOk c.list_order.result (λ found. MatchOption found (¬ (l.setup.kind ≡ kinds.List))
     (λ order. (l.setup.kind ≡ kinds.List) × Explains order.items (records_before_fault_in l.setup l.log))))
     c.self.view_is
-    (c.list_order.ensures (history_in m.setup (records_of m.setup m.log.items)) c.self.invariant.history)
+    (c.list_order.ensures (history_in m.setup (records_of m.setup m.log.items)) (rw c.deref.ensures c.self.invariant.history))
 
 -- an order that explains records which hold makes their named sequence an RA-linearization for it
 linearizes : (kind : Kind) (records : Records) (found : Option (global.Vec ℕ)) → Holds kind records

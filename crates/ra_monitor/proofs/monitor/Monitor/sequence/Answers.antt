@@ -16,10 +16,10 @@ sound m = records_before_fault m.setup.kind (records_of m.setup m.log)
 
 pub returns-clause-named : goal.returns-clause-named
 returns-clause-named c =
-    let m = c.self.inside in
+    let m = c.self.inside.parts.value in
     let all = ap (λ (l : Monitor). map ref_of (named_sequence l.setup.kind (sound l))) c.self.view_is in
     subst (λ (refs : List PartRef). IfOk c.sequence.result (λ parts. parts.items ≡ refs)) all
-    (c.sequence.ensures (history_in m.setup (records_of m.setup m.log.items)) c.self.invariant.history)
+    (c.sequence.ensures (history_in m.setup (records_of m.setup m.log.items)) (rw c.deref.ensures c.self.invariant.history))
 
 -- a fact holds after either outcome
 either_way : {T E P : Type 0} (r : Result T E) → P → OnOk r P
