@@ -106,9 +106,9 @@ module _ {M C R S : Type 0} (j : Readings M C R S) (opened : S) where
       ))))
   draws slots id _ c t st asked one_more room idle s r deep at fits = absurd (cc)
 
-  -- an idle seat that has seen ticket t served draws it and receives the slot
+  -- an idle seat that has seen `serving` at ticket t or above draws it and receives the slot
   pub draws_served : (slots id : ℕ) (v : View C R S) (c : Slots) (t : ℕ) (st : Step (Option M)) → st.first ≡ t
-      → st.second ≡ t + 1 → t + 1 < 2 ^ 64 → stage_of v ≡ Some Idle → serving_of v ≡ t
+      → st.second ≡ t + 1 → t + 1 < 2 ^ 64 → stage_of v ≡ Some Idle → t ≤ serving_of v
       → Allows Rule slots id (v, c) 0 (λ n. either (eqb n t) (t + 1) n) (drew_served j st (v, c))
   draws_served slots id (Knows k) c t st asked one_more room idle seen s r deep at fits = let low =
       r.reached id (Knows k) at in let is = stage_is k Idle idle in
@@ -126,7 +126,7 @@ module _ {M C R S : Type 0} (j : Readings M C R S) (opened : S) where
           idle,
           refl,
           refl,
-          seen ∙ sym asked,
+          refl,
           refl,
           let a : k.serving ≤ r.serving = low.1 in let b = r.order in omega arith,
         ),

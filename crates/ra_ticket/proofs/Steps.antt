@@ -190,8 +190,8 @@ module _ {M C R S : Type 0} (j : Readings M C R S) (opened : S) where
           ),
         )
 
-    -- an idle seat that has seen its ticket served, and reads this ticket from `next`, enters with it
-    pub enters_at_once : (t : ℕ) (c : Slots) (st : Step (Option M)) → k.stage ≡ Idle → k.serving ≡ t → r.next ≡ t
+    -- an idle seat that has seen `serving` at this ticket or above, and reads the ticket from `next`, enters with it
+    pub enters_at_once : (t : ℕ) (c : Slots) (st : Step (Option M)) → k.stage ≡ Idle → t ≤ k.serving → r.next ≡ t
         → t + 1 < 2 ^ 64 → st.first ≡ t → st.second ≡ t + 1
         → Goes s id c ((t + 1) ∷ r.serving ∷ r.mark ∷ r.others) (drew_served j st (Knows k, c) r.next)
     enters_at_once t c st idle seen at_next room asked one_more = let served : t ≡ r.serving =

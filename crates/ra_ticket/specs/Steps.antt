@@ -117,16 +117,16 @@ module _ {M C R S : Type 0} where
       × (found ≡ step.first → (stage_of m'.0 ≡ Some (Waiting step.first)) × (step.second ≡ step.first + 1))
       × (found ≢ step.first → (stage_of m'.0 ≡ Some Idle) × (next_of m'.0 ≡ found))
 
-  -- The step in which an idle seat draws the ticket that it has seen served, if `next` is that number. It receives the
-  -- slot, and sees the log of the journal in it.
+  -- The step in which an idle seat draws a ticket that `serving` had reached as far as the seat has seen, if `next` is
+  -- that number. It receives the slot, and sees the log of the journal in it.
   abbrev pub drew_served : Readings M C R S → Step (Option M) → Sat M C R S → ℕ → Sat M C R S → Type 0
-  drew_served j step m found m' = stage_of m.0 ≡ Some Idle → serving_of m.0 ≡ step.first
+  drew_served j step m found m' = stage_of m.0 ≡ Some Idle → step.first ≤ serving_of m.0
       → Stays m.0 m'.0 × SeesMore m.0 m'.0
       × (found ≡ step.first → (stage_of m'.0 ≡ Some (Holding step.first))
       × ((journal : M) × (m'.1 ≡ (0, Some journal) ∷ m.1) × HasEntered j m'.0 step.first journal)
       × (step.second ≡ step.first + 1))
       × (found ≢ step.first → (stage_of m'.0 ≡ Some Idle) × (m'.1 ≡ m.1) × (seen_of m'.0 ≡ seen_of m.0)
-      × (serving_of m'.0 ≡ step.first) × (next_of m'.0 ≡ found) × (step.first < found))
+      × (serving_of m'.0 ≡ serving_of m.0) × (next_of m'.0 ≡ found) × (step.first < found))
 
   -- the step in which a waiting seat receives the slot and sees the log of the journal in it, if its ticket is served
   abbrev pub looked : Readings M C R S → Step (Option M) → Sat M C R S → ℕ → Sat M C R S → Type 0

@@ -28,12 +28,12 @@ pub(crate) fn learn_serving<M: Journal>(board: &Board<M>, seat: &mut LockSeat<M>
     board.load::<LearnServing>(seat, SERVING)
 }
 
-// Tries, by a compare-exchange of `next`, to draw a ticket that the seat has seen served. Returns the number found,
-// which equals the ticket if it was drawn. The seat then holds the slot with the journal.
+// Tries, by a compare-exchange of `next`, to draw a ticket that `serving` had reached as far as the seat has seen.
+// Returns the number found, which equals the ticket if it was drawn. The seat then holds the slot with the journal.
 fn try_draw_served<M: Journal>(board: &Board<M>, seat: &mut LockSeat<M>, ticket: u64) -> u64
     requires table { IsSeated seat.old.table_id board.now.table_id }
     requires idle { (stage_of seat.old.me.0 ≡ Some Idle) × (seat.old.me.1 ≡ []) }
-    requires served { serving_of seat.old.me.0 ≡ ticket }
+    requires served { ticket ≤ serving_of seat.old.me.0 }
     requires room { ticket ≤ GREATEST_TICKET }
     ensures seat { IsSameSeat seat.old seat.new }
     ensures seen { BeginsWith (seen_of seat.new.me.0) (seen_of seat.old.me.0) }
@@ -41,14 +41,14 @@ fn try_draw_served<M: Journal>(board: &Board<M>, seat: &mut LockSeat<M>, ticket:
     ensures drawn { result ≡ ticket → (stage_of seat.new.me.0 ≡ Some (Holding ticket))
         × Carries (readings M.setup M.log M.reply_of M.fault_of) seat.new ticket }
     ensures missed { result ≢ ticket → (stage_of seat.new.me.0 ≡ Some Idle) × (seat.new.me.1 ≡ [])
-        × (seen_of seat.new.me.0 ≡ seen_of seat.old.me.0) × (serving_of seat.new.me.0 ≡ ticket)
+        × (seen_of seat.new.me.0 ≡ seen_of seat.old.me.0) × (serving_of seat.new.me.0 ≡ serving_of seat.old.me.0)
         × (next_of seat.new.me.0 ≡ result) × (ticket < result) }
 {
     board.compare_exchange::<DrawServed<M>>(seat, NEXT, ticket, ticket + 1)
 }
 
-/// Enters, in one step, with a ticket that the seat has seen served, if `next` equals it. Otherwise returns the value
-/// of `next`, which is greater, as the error.
+/// Enters, in one step, with a ticket that `serving` had reached as far as the seat has seen, if `next` equals it: no
+/// other call is then in progress. Otherwise returns the value of `next`, which is greater, as the error.
 pub(crate) fn enter_served<M: Journal>(
     board: &Board<M>,
     seat: &mut LockSeat<M>,
@@ -56,12 +56,12 @@ pub(crate) fn enter_served<M: Journal>(
 ) -> Result<M, u64>
     requires table { IsSeated seat.old.table_id board.now.table_id }
     requires idle { (stage_of seat.old.me.0 ≡ Some Idle) × (seat.old.me.1 ≡ []) }
-    requires served { serving_of seat.old.me.0 ≡ ticket }
+    requires served { ticket ≤ serving_of seat.old.me.0 }
     requires room { ticket ≤ GREATEST_TICKET }
     ensures seat { IsSameSeat seat.old seat.new }
     ensures entered { IfOk result (HasLifted (readings M.setup M.log M.reply_of M.fault_of) seat.old seat.new ticket) }
     ensures missed { IfErr result (λ found. (stage_of seat.new.me.0 ≡ Some Idle) × (seat.new.me.1 ≡ [])
-        × (seen_of seat.new.me.0 ≡ seen_of seat.old.me.0) × (serving_of seat.new.me.0 ≡ ticket)
+        × (seen_of seat.new.me.0 ≡ seen_of seat.old.me.0) × (serving_of seat.new.me.0 ≡ serving_of seat.old.me.0)
         × (next_of seat.new.me.0 ≡ found) × (ticket < found)) }
 {
     let found = try_draw_served(board, seat, ticket);
@@ -72,23 +72,22 @@ pub(crate) fn enter_served<M: Journal>(
     }
 }
 
-/// Tries repeatedly to enter with a ticket that is served at once, which needs `next` equal to `serving`. Returns the
-/// ticket and the journal. Between two tries it spins and later yields, without a ticket drawn. It stops when all
-/// tickets are drawn.
-pub(crate) fn enter_at_once<M: Journal>(
-    board: &Board<M>,
-    seat: &mut LockSeat<M>,
-) -> Option<(u64, M)>
+// Tries repeatedly to enter with a ticket that is served at once, which needs `next` equal to `serving`. Returns the
+// ticket and the journal. Between two tries it spins and later yields, without a ticket drawn. It stops when all
+// tickets are drawn.
+#[inline(never)]
+fn enter_once_free<M: Journal>(board: &Board<M>, seat: &mut LockSeat<M>) -> Option<(u64, M)>
     requires table { IsSeated seat.old.table_id board.now.table_id }
     requires idle { (stage_of seat.old.me.0 ≡ Some Idle) × (seat.old.me.1 ≡ []) }
     ensures seat { IsSameSeat seat.old seat.new }
     ensures entered { IfSome result
         (λ r. HasLifted (readings M.setup M.log M.reply_of M.fault_of) seat.old seat.new r.0 r.1) }
+    ensures room { IfSome result (λ r. r.0 ≤ GREATEST_TICKET) }
     ensures else_idle { IfNone result ((stage_of seat.new.me.0 ≡ Some Idle) × (seat.new.me.1 ≡ [])
         × (seen_of seat.new.me.0 ≡ seen_of seat.old.me.0)) }
 {
     let mut backoff = Backoff::new();
-    for _ in 0..TRIES_AT_ONCE {
+    for _ in 1..TRIES_AT_ONCE {
         let next = learn_next(board, seat);
         if next > GREATEST_TICKET {
             return None;
@@ -102,4 +101,32 @@ pub(crate) fn enter_at_once<M: Journal>(
         backoff.wait();
     }
     None
+}
+
+/// Enters with a ticket that is served at once, if one of up to 64 tries finds `next` equal to `serving`. Returns the
+/// ticket and the journal. The first try is a compare-exchange from `known`, a number that `serving` had reached as far
+/// as the seat has seen: it is still `serving`, unless another pass was served since.
+pub(crate) fn enter_at_once<M: Journal>(
+    board: &Board<M>,
+    seat: &mut LockSeat<M>,
+    known: u64,
+) -> Option<(u64, M)>
+    requires table { IsSeated seat.old.table_id board.now.table_id }
+    requires idle { (stage_of seat.old.me.0 ≡ Some Idle) × (seat.old.me.1 ≡ []) }
+    requires known { known ≤ serving_of seat.old.me.0 }
+    ensures seat { IsSameSeat seat.old seat.new }
+    ensures entered { IfSome result
+        (λ r. HasLifted (readings M.setup M.log M.reply_of M.fault_of) seat.old seat.new r.0 r.1) }
+    ensures room { IfSome result (λ r. r.0 ≤ GREATEST_TICKET) }
+    ensures else_idle { IfNone result ((stage_of seat.new.me.0 ≡ Some Idle) × (seat.new.me.1 ≡ [])
+        × (seen_of seat.new.me.0 ≡ seen_of seat.old.me.0)) }
+{
+    if known > GREATEST_TICKET {
+        // All tickets are served.
+        return None;
+    }
+    match enter_served(board, seat, known) {
+        Ok(journal) => Some((known, journal)),
+        Err(_) => enter_once_free(board, seat),
+    }
 }

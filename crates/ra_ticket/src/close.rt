@@ -64,7 +64,11 @@ impl<M: Journal> TicketLock<M> {
         ensures reached { IfErr result (λ u. (serving_reached pass ≤ u.serving) × (next_reached pass ≤ u.next)) }
     {
         let TicketLock { table } = self;
-        let Pass { number: _, seat } = pass;
+        let Pass {
+            number: _,
+            serving: _,
+            seat,
+        } = pass;
         let (next, serving, slot) = close_table(table, seat);
         if next == serving {
             Ok(slot.unwrap())

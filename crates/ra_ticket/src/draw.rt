@@ -54,6 +54,7 @@ pub(crate) fn draw_ticket<M: Journal, R: Wait>(
     ensures slot { seat.new.me.1 ≡ seat.old.me.1 }
     ensures seen { seen_of seat.new.me.0 ≡ seen_of seat.old.me.0 }
     ensures drawn { IfSome result (λ ticket. stage_of seat.new.me.0 ≡ Some (Waiting ticket)) }
+    ensures room { IfSome result (λ ticket. ticket ≤ GREATEST_TICKET) }
     ensures worn { IfNone result
         ((stage_of seat.new.me.0 ≡ Some Idle) × (next_of seat.new.me.0 ≡ GREATEST_TICKET + 1)) }
 {

@@ -1,8 +1,8 @@
 //! The entry of a pass, with a ticket that is served at once or by waiting for its turn.
-ghost use Rattle.std.specs.Prelude.{◌≡◌, ◌+◌, [], Some, IfSome, IfNone, MatchBool};
+ghost use Rattle.std.specs.Prelude.{◌≡◌, ◌+◌, ◌≤◌, [], Some, IfSome, IfNone, MatchBool};
 ghost use Rattle.ra_journal.specs.Log.{readings, BeginsWith};
 ghost use Rattle.ra_ticket.specs.Steps.{IsSeated, IsSameSeat, Carries, HasLifted, KeepsOwn};
-ghost use Rattle.ra_ticket.specs.Views.{stage_of, next_of, seen_of};
+ghost use Rattle.ra_ticket.specs.Views.{stage_of, next_of, serving_of, seen_of};
 ghost use Rattle.ra_ticket.specs.declared.board.Stage.TheVariants.{Idle, Waiting, Holding};
 
 use crate::at_once::enter_at_once;
@@ -55,21 +55,25 @@ fn wait_for_turn<M: Journal, R: Wait>(
 }
 
 /// Enters with a ticket that is served at once, or draws the next one and waits until it is served. Returns the ticket
-/// and the journal, or `None` if all tickets are drawn.
+/// and the journal, or `None` if all tickets are drawn. The first try is with `known`, a number that `serving` had
+/// reached as far as the seat has seen.
 pub(crate) fn enter<M: Journal, R: Wait>(
     rt: &R,
     board: &Board<M>,
     seat: &mut LockSeat<M>,
+    known: u64,
 ) -> Option<(u64, M)>
     requires table { IsSeated seat.old.table_id board.now.table_id }
     requires idle { (stage_of seat.old.me.0 ≡ Some Idle) × (seat.old.me.1 ≡ []) }
+    requires known { known ≤ serving_of seat.old.me.0 }
     ensures seat { IsSameSeat seat.old seat.new }
     ensures entered { IfSome result
         (λ r. HasLifted (readings M.setup M.log M.reply_of M.fault_of) seat.old seat.new r.0 r.1) }
+    ensures room { IfSome result (λ r. r.0 ≤ GREATEST_TICKET) }
     ensures worn { IfNone result ((stage_of seat.new.me.0 ≡ Some Idle) × (seat.new.me.1 ≡ [])
         × (seen_of seat.new.me.0 ≡ seen_of seat.old.me.0) × (next_of seat.new.me.0 ≡ GREATEST_TICKET + 1)) }
 {
-    if let Some(entered) = enter_at_once(board, seat) {
+    if let Some(entered) = enter_at_once(board, seat, known) {
         return Some(entered);
     }
     let ticket = draw_ticket(rt, board, seat)?;

@@ -26,10 +26,12 @@ impl<M: Journal> TicketLock<M> {
 
     /// Draws a ticket, waits until it is served, lets the journal answer the command, and publishes the answer.
     ///
-    /// It first tries up to 64 times for a ticket that is served at once, and holds none between two tries. Then it
-    /// draws the next ticket to wait with, and tries again whenever another call draws first. Until then others may
-    /// overtake it; a call that draws later is not served before it. It pauses between two tries, and then between two
-    /// looks at the ticket that is served: for 1, 2, 4 .. 64 spins, and after that by yielding the processor.
+    /// It first tries up to 64 times for a ticket that is served at once, and holds none between two tries. The first
+    /// try is one compare-exchange from the number after the pass's last ticket, and fails if another call has drawn a
+    /// ticket since. Then it draws the next ticket to wait with, and tries again whenever another call draws first.
+    /// Until then others may overtake it; a call that draws later is not served before it. It pauses between two tries,
+    /// and then between two looks at the ticket that is served: for 1, 2, 4 .. 64 spins, and after that by yielding the
+    /// processor.
     ///
     /// # Errors
     ///
@@ -38,8 +40,9 @@ impl<M: Journal> TicketLock<M> {
     ///
     /// # Complexity
     ///
-    /// The journal's step, a few atomic steps, two or three more for each try, one for each pass that draws at the same
-    /// time, and the wait. The journal's own bytes, not what it owns, are copied twice.
+    /// The journal's step and three atomic steps, if no other call has drawn a ticket since the pass's last call;
+    /// otherwise two or three more for each try, one for each pass that draws at the same time, and the wait. The
+    /// journal's own bytes, not what it owns, are copied twice.
     pub fn submit<R: Wait>(
         &self,
         rt: &R,
@@ -56,15 +59,12 @@ impl<M: Journal> TicketLock<M> {
         ensures never_busy { IfErr result (λ f. ¬ (IsBusy f)) }
     {
         let board = &self.table.shared;
-        match enter(rt, board, &mut pass.seat) {
-            Some((ticket, journal)) => serve(
-                board,
-                &mut pass.seat,
-                pass.number,
-                ticket,
-                journal,
-                command,
-            ),
+        match enter(rt, board, &mut pass.seat, pass.serving) {
+            Some((ticket, journal)) => {
+                let outcome = serve(board, &mut pass.seat, pass.number, ticket, journal, command);
+                pass.serving = ticket + 1;
+                outcome
+            }
             None => Err(CallFault::Worn(command)),
         }
     }
@@ -105,7 +105,11 @@ impl<M: Journal> TicketLock<M> {
             return Err(CallFault::Worn(command));
         }
         match enter_served(board, &mut pass.seat, at) {
-            Ok(journal) => serve(board, &mut pass.seat, pass.number, at, journal, command),
+            Ok(journal) => {
+                let outcome = serve(board, &mut pass.seat, pass.number, at, journal, command);
+                pass.serving = at + 1;
+                outcome
+            }
             Err(found) if found > GREATEST_TICKET => Err(CallFault::Worn(command)),
             Err(found) => Err(CallFault::Busy { at, found, command }),
         }

@@ -100,16 +100,26 @@ impl<M: Journal> TicketLock<M> {
         ensures calls { result.2 ≡ length (seen result.0) }
     {
         let board = &self.table.shared;
-        let Pass { number, mut seat } = first;
+        let Pass {
+            number,
+            serving,
+            mut seat,
+        } = first;
         let Pass {
             number: other_number,
+            serving: other_serving,
             seat: other,
         } = second;
         let (own, mark) = look_and_part(board, &mut seat, other);
         let (calls, _) = read(mark);
-        let first = Pass { number, seat: own };
+        let first = Pass {
+            number,
+            serving,
+            seat: own,
+        };
         let second = Pass {
             number: other_number,
+            serving: other_serving,
             seat,
         };
         (first, second, calls)

@@ -75,7 +75,11 @@ fn deal<M: Journal>(
     let mut dealt = Vec::with_capacity(alloc, usize::from(passes))?;
     for number in 0..passes {
         let seat = split_first(board, &mut rest);
-        dealt.push(Pass { number, seat })?;
+        dealt.push(Pass {
+            number,
+            serving: 0,
+            seat,
+        })?;
     }
     Ok(dealt)
 }

@@ -1,6 +1,6 @@
 //! The right to make calls on a lock.
-ghost use Rattle.std.specs.Prelude.{◌≡◌, [], ◌∷◌, Some};
-ghost use Rattle.ra_ticket.specs.Views.{stage_of, numbers_of};
+ghost use Rattle.std.specs.Prelude.{◌≡◌, ◌≤◌, [], ◌∷◌, Some};
+ghost use Rattle.ra_ticket.specs.Views.{stage_of, numbers_of, serving_of};
 ghost use Rattle.ra_ticket.specs.declared.board.Stage.TheVariants.{Idle};
 
 use crate::board::LockSeat;
@@ -11,8 +11,11 @@ use ra_journal::Journal;
 #[derive(Drop)]
 pub struct Pass<M: Journal> {
     pub(crate) number: u8,
+    // A number that `serving` has reached, as far as the pass has seen: one above the ticket of its last call.
+    pub(crate) serving: u64,
     pub(crate) seat: LockSeat<M>,
     ghost numbered: { numbers_of seat.me.0 ≡ number ∷ [] },
+    ghost served: { serving ≤ serving_of seat.me.0 },
     ghost idle: { stage_of seat.me.0 ≡ Some Idle },
     ghost empty: { seat.me.1 ≡ [] },
 }

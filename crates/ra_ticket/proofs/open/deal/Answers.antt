@@ -37,6 +37,7 @@ invariant_of-push g c = let n = c.loop-number.number in let was = c.loop-number.
     let more : c.args.passes - n ≡ suc (c.args.passes - (n + 1)) = omega arith in
     let first = c.split_first-seat.ensures.first in record {
       numbered = first.its ∙ ap first_only (was.others ∙ ap (range_with_len n) more);
+      served = omega arith;
       idle = first.stage ∙ was.idle;
       empty = c.split_first-seat.ensures.slots.1;
     }

@@ -1,4 +1,4 @@
-use Rattle.std.proofs.Common.{rules}
+use Rattle.std.proofs.Common.{rules, le_trans}
 use Rattle.ra_ticket.proofs.Journals.{of_journal}
 use Rattle.ra_ticket.proofs.Marks.{read_off}
 use Rattle.ra_ticket.proofs.Partings.{pass_goes_on}
@@ -23,13 +23,21 @@ returns-clause-calls g c = (read_off (of_journal g.M.Journal) _ _ _ _
 
 pub invariant_of-first : goal.invariant_of-first
 invariant_of-first g c = let its =
-    (c.look_and_part-own.ensures.parted _ _ c.args.first.numbered c.args.second.numbered).0 in
-    record { numbered = its.numbers; idle = its.idle; empty = search rules }
+    (c.look_and_part-own.ensures.parted _ _ c.args.first.numbered c.args.second.numbered).0 in record {
+      numbered = its.numbers;
+      served = le_trans c.args.first.served its.serving;
+      idle = its.idle;
+      empty = search rules;
+    }
 
 pub invariant_of-second : goal.invariant_of-second
 invariant_of-second g c = let its =
-    (c.look_and_part-own.ensures.parted _ _ c.args.first.numbered c.args.second.numbered).1 in
-    record { numbered = its.numbers; idle = its.idle; empty = search rules }
+    (c.look_and_part-own.ensures.parted _ _ c.args.first.numbered c.args.second.numbered).1 in record {
+      numbered = its.numbers;
+      served = le_trans c.args.second.served its.serving;
+      idle = its.idle;
+      empty = search rules;
+    }
 
 pub returns-clause-first : goal.returns-clause-first
 returns-clause-first g c = pass_goes_on c.args.first _ (search rules) (search rules)

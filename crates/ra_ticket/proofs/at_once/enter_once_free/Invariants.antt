@@ -2,7 +2,7 @@ use Rattle.std.proofs.Common.{◌≡◌, [], Some}
 use Rattle.ra_ticket.specs.Steps.{IsSameSeat}
 use Rattle.ra_ticket.specs.Views.{stage_of, seen_of}
 use Rattle.ra_ticket.specs.declared.board.Stage.TheVariants.{Idle}
-use Rattle.ra_ticket.proofs.at_once.enter_at_once.Given as goal
+use Rattle.ra_ticket.proofs.at_once.enter_once_free.Given as goal
 
 abbrev pub invariant-loop : goal.invariant-loop
 invariant-loop g l = record {
