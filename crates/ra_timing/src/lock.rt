@@ -1,10 +1,11 @@
-//! The lock beside a Mutex around the same log: a million calls of each on 1, 2, 4, 8 and 64 threads; the number of
-//! calls that each of several threads completes, in turns; and the order in which waiting callers are served.
-//! `tests/program/fairness` bounds the last two.
+//! The lock beside a Mutex around the same log, and around the same monitor: a million calls of each on 1, 2, 4, 8 and
+//! 64 threads; the number of calls that each of several threads completes, in turns; and the order in which waiting
+//! callers are served. `tests/program/fairness` bounds the last two.
 
 mod calls;
 mod gated;
 mod journal;
+mod monitor;
 mod mutex;
 mod order;
 mod waits;
@@ -104,4 +105,36 @@ pub fn print_times<R: Threads + Wait + Clock + Print + Sync>(rt: &R, alloc: Glob
         )?;
     }
     Ok(())
+}
+
+/// Prints the times of a monitor behind the lock and behind a Mutex, a line for each number of threads. Each is the
+/// least of several turns, so that other work on the machine matters little.
+pub fn print_monitor_times<R: Threads + Wait + Clock + Print + Sync>(
+    rt: &R,
+    alloc: Global,
+) -> Result<()> {
+    println!(rt; "threads  lock (ms)  mutex (ms)")?;
+    for threads in [1u8, 2, 4, 8, 64] {
+        let reports = CALLS / u32::from(threads);
+        let (lock, mutex) = least_monitor_times(rt, alloc, threads, reports)?;
+        println!(rt; "{threads:>7}  {lock:>9}  {mutex:>10}")?;
+    }
+    Ok(())
+}
+
+// Returns the least time of the lock and of the Mutex, in milliseconds.
+fn least_monitor_times<R: Threads + Wait + Clock + Sync>(
+    rt: &R,
+    alloc: Global,
+    threads: u8,
+    reports: u32,
+) -> Result<(u128, u128)> {
+    let (mut lock, mut mutex) = (u128::MAX, u128::MAX);
+    for _ in 0..TURNS {
+        let time = monitor::by_lock(rt, alloc, threads, reports)?;
+        lock = lock.min(time.as_millis());
+        let time = monitor::by_mutex(rt, alloc, threads, reports)?;
+        mutex = mutex.min(time.as_millis());
+    }
+    Ok((lock, mutex))
 }

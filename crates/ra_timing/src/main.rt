@@ -1,6 +1,7 @@
 //! Measurements of what no contract states: the lock, the room for log entries, and the check of a text.
 //!
 //!     ra_timing lock       times a million calls of the ticket lock, and of a Mutex around the same log
+//!     ra_timing monitor    times a million reports to a monitor behind the ticket lock, and behind a Mutex
 //!     ra_timing calls      counts the answers to each of eight threads that submit, in turns by the lock and a Mutex
 //!     ra_timing yields     the same with a holder of the lock that yields the processor
 //!     ra_timing alone      the same with one thread that submits
@@ -26,6 +27,7 @@ fn main(rt: HostRuntime) -> Result<()> {
     match word_of(&rt)? {
         None => Ok(()),
         Some(Word::Lock) => lock::print_times(&rt, rt.alloc()),
+        Some(Word::Monitor) => lock::print_monitor_times(&rt, rt.alloc()),
         Some(Word::Asked(asked)) => lock::print_counts(&rt, rt.alloc(), asked),
         Some(Word::Order) => lock::print_places(&rt, rt.alloc()),
         Some(Word::Room) => room::print_room(&rt, rt.alloc()),

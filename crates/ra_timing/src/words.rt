@@ -11,6 +11,8 @@ use std::env::Env;
 pub enum Word {
     /// The lock beside a Mutex.
     Lock,
+    /// A monitor behind the lock, beside one behind a Mutex.
+    Monitor,
     /// The number of calls that each of several threads completes at the lock and at a Mutex.
     Asked(Asked),
     /// The order in which waiting callers are served.
@@ -29,7 +31,7 @@ pub fn word_of<R: Env + AllocGlobal>(rt: &R) -> Result<Option<Word>> {
         Some(word) => match named(word.as_str()) {
             Some(word) => Ok(Some(word)),
             None => bail!(
-                "ra_timing lock|calls|yields|alone|attempts|glances|order|room|text|loop"
+                "ra_timing lock|monitor|calls|yields|alone|attempts|glances|order|room|text|loop"
             ),
         },
         None => Ok(None),
@@ -39,6 +41,7 @@ pub fn word_of<R: Env + AllocGlobal>(rt: &R) -> Result<Option<Word>> {
 fn named(word: &str) -> Option<Word> {
     Some(match word {
         "lock" => Word::Lock,
+        "monitor" => Word::Monitor,
         "calls" => Word::Asked(Asked::Calls),
         "yields" => Word::Asked(Asked::Yields),
         "alone" => Word::Asked(Asked::Alone),
