@@ -12,5 +12,8 @@ mod Halves
 mod ElementGroups
 mod Splits
 mod InsertedElements
-mod NearestElements
-mod YoungestElements
+mod AnchoredElements
+mod KeptElements
+mod MarkedNumbers
+mod ElementOrder
+mod ComparedElements

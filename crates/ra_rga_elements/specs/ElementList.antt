@@ -1,6 +1,6 @@
 -- An element list, as contracts describe it, and the terms of its clauses.
-use Rattle.std.specs.Prelude.{◌≡◌, ℕ, ◌<◌, Bool, true, false, not, List, ◌∷◌, ◌++◌, length, get_or}
-use Rattle.std.specs.List.{list_all}
+use Rattle.std.specs.Prelude.{◌≡◌, ℕ, ◌<◌, Bool, true, false, List, ◌∷◌, ◌++◌, length, get_or, Option, Some, None}
+use Rattle.std.specs.List.{count_by}
 use Rattle.std.specs.Ordering.{is_lt}
 use Rattle.ra_labels.specs.declared.label.Stamp.{Stamp}
 use Rattle.ra_labels.specs.NamedOrder.{lowest_rank, stamp_cmp}
@@ -41,17 +41,26 @@ abbrev pub IsKeptByMark : (ℕ → Bool) → List Bool → List Arrival → Type
 IsKeptByMark keep marks arrivals = (n : ℕ) → n < length arrivals
     → keep (arrival_at arrivals n).element ≡ is_marked marks n
 
--- holds if x is directly after p in the list
-abbrev pub StandsBehind : List ℕ → ℕ → ℕ → Type 0
-StandsBehind elements x p = (before behind : List ℕ) × (elements ≡ before ++ p ∷ x ∷ behind)
-
--- holds if p is the nearest element before x that is kept
-abbrev pub IsNearestBefore : (ℕ → Bool) → List (ℕ × Bool) → ℕ → ℕ → Type 0
-IsNearestBefore keep list x p = (before between behind : List (ℕ × Bool)) × (is_shown was_shown : Bool)
-    × (list ≡ before ++ (p, is_shown) ∷ between ++ (x, was_shown) ∷ behind)
-    × (keep p ≡ true) × (list_all (λ entry. not (keep entry.0)) between ≡ true)
-
 -- holds if x is somewhere after p
 abbrev pub IsSomewhereBehind : List (ℕ × Bool) → ℕ → ℕ → Type 0
 IsSomewhereBehind list x p = (before between behind : List (ℕ × Bool)) × (is_shown was_shown : Bool)
     × (list ≡ before ++ (p, is_shown) ∷ between ++ (x, was_shown) ∷ behind)
+
+-- the number of marks
+abbrev pub marked_count : List Bool → ℕ
+marked_count marks = count_by (λ mark. mark) marks
+
+-- holds if the index is that of the element with this number, or the end of the list if there is no number
+abbrev pub IsIndexOf : ElementList → Option ℕ → ℕ → Type 0
+IsIndexOf list None index = index ≡ length list.elements
+IsIndexOf list (Some number) index = (number < length list.arrivals) × (index < length list.elements)
+    × (get_or list.elements index 0 ≡ (arrival_at list.arrivals number).element)
+
+-- holds if x is in the list, before the element with this number if there is one
+abbrev pub IsBefore : ElementList → Option ℕ → ℕ → Type 0
+IsBefore list behind x = (i j : ℕ) × IsIndexOf list behind i × (j < i) × (get_or list.elements j 0 ≡ x)
+
+-- holds if this is the number of x, which is marked and before the element with the other number
+abbrev pub IsMarkedBefore : ElementList → List Bool → Option ℕ → ℕ → ℕ → Type 0
+IsMarkedBefore list marks behind x number = (number < length list.arrivals)
+    × ((arrival_at list.arrivals number).element ≡ x) × (is_marked marks number ≡ true) × IsBefore list behind x

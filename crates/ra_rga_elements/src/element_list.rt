@@ -1,8 +1,8 @@
 //! The list of all elements of an RGA, in chunks, with an index of the elements by number.
-ghost use Rattle.std.specs.Prelude.{◌≡◌, ◌↔◌, ℕ, ◌<◌, true, Bool, List, ◌++◌, ◌∷◌, [], length, Some, IsTrue, IfOk, OnOk};
+ghost use Rattle.std.specs.Prelude.{◌≡◌, ◌↔◌, ℕ, ◌<◌, ◌≤◌, true, false, Bool, List, ◌++◌, ◌∷◌, [], length, filter, Some, None, IsTrue, IfSome, IfOk, OnOk};
 ghost use Rattle.ra_labels.specs.TheoremTerms.{elements_in};
 ghost use Rattle.ra_labels.specs.Late.{insert_late_after};
-ghost use Rattle.ra_rga_elements.specs.ElementList.{root, arrival_at, IsBelowByStamp, is_marked, IsKeptByMark, StandsBehind, IsNearestBefore, IsSomewhereBehind};
+ghost use Rattle.ra_rga_elements.specs.ElementList.{root, arrival_at, IsBelowByStamp, is_marked, IsKeptByMark, IsSomewhereBehind, marked_count, IsBefore, IsMarkedBefore};
 
 use crate::chunk::Chunk;
 use crate::element::Element;
@@ -17,6 +17,9 @@ use std::marker::Model;
 
 /// The number of the root, the element before all others.
 pub const ROOT: u32 = 0;
+
+// The number of steps from an element back to the marked one before it, after which an element is looked up instead.
+const MOST_STEPS: u32 = 16;
 
 /// The elements of all labels, in the order of the list after the updates of all labels. Elements have numbers in the
 /// order of their insertion here, and the root has number 0.
@@ -144,26 +147,6 @@ impl ElementList {
         self.elements[number as usize].anchor
     }
 
-    /// Returns `true` if the element with this number stands directly behind its anchor.
-    pub fn is_youngest(&self, number: u32) -> bool
-        // The number is not that of the root.
-        requires some { 0 < number }
-        // An element with this number exists.
-        requires there { number < length self.now.arrivals }
-        // The result is `true` exactly if the element stands directly behind its anchor.
-        ensures exactly { let arrival = arrival_at self.now.arrivals number in IsTrue result
-            ↔ StandsBehind self.now.elements arrival.element (arrival_at self.now.arrivals arrival.anchor).element }
-        // If the result is `true` and a test keeps the anchor, the anchor is the nearest kept element before this one.
-        ensures nearest { (keep : ℕ → Bool) (all : List (ℕ × Bool))
-            → let arrival = arrival_at self.now.arrivals number in
-            let anchor = arrival_at self.now.arrivals arrival.anchor in IsTrue result
-            → elements_in all ≡ self.now.elements → keep anchor.element ≡ true
-            → IsNearestBefore keep all arrival.element anchor.element }
-    {
-        let element = self.elements[number as usize];
-        element.before == element.anchor
-    }
-
     /// Reserves room for one more element. The elements and their order do not change.
     ///
     /// # Errors
@@ -239,30 +222,89 @@ impl ElementList {
         );
     }
 
-    /// Returns the number of the nearest marked element before this one. The root is marked.
+    /// Returns `true` if the marked elements are exactly these, in the order of the list. Their number is given.
     ///
     /// # Complexity
     ///
-    /// O(n), where `n` is the number of elements between.
-    pub fn nearest_before(&self, number: u32, marks: &[bool]) -> u32
-        // The number is not that of the root.
-        requires some { 0 < number }
-        // An element with this number exists.
-        requires there { number < length self.now.arrivals }
-        // The root is marked.
-        requires root { is_marked marks.now 0 ≡ true }
-        // An element with the returned number exists.
-        ensures among { result < length self.now.arrivals }
-        // The result is the number of the nearest marked element before this one.
-        ensures nearest { (keep : ℕ → Bool) (all : List (ℕ × Bool)) → elements_in all ≡ self.now.elements
-            → IsKeptByMark keep marks.now self.now.arrivals → IsNearestBefore keep all
-            (arrival_at self.now.arrivals number).element (arrival_at self.now.arrivals result).element }
+    /// O(n), where `n` is the number of the listed elements: for each of them a few steps back in the list, or at most
+    /// one lookup of its number and a search in one chunk.
+    pub fn lists(&self, marks: &[bool], count: usize, listed: &[u32]) -> bool
+        // If `count` is the number of the marked elements, the result is `true` exactly if the list, without the
+        // elements that are not marked, is the given one.
+        ensures { (keep : ℕ → Bool) → IsKeptByMark keep marks.now self.now.arrivals
+            → ((n : ℕ) → length self.now.arrivals ≤ n → is_marked marks.now n ≡ false)
+            → count ≡ marked_count marks.now
+            → IsTrue result ↔ (listed.now ≡ filter keep self.now.elements) }
     {
-        let mut found = self.elements[number as usize].before;
-        while !is_marked(marks, found) {
-            found = self.elements[found as usize].before;
+        let _ = &self.elements;
+        if listed.len() != count {
+            return false;
         }
-        found
+        let mut left = listed;
+        let mut behind = None;
+        while let Some((element, rest)) = left.split_last() {
+            let Some(number) = self.marked_before(marks, behind, *element) else {
+                return false;
+            };
+            behind = Some(number);
+            left = rest;
+        }
+        true
+    }
+
+    // Returns the number of the element if it is marked and before the element with this number, if there is one.
+    fn marked_before(&self, marks: &[bool], behind: Option<u32>, element: u32) -> Option<u32>
+        requires { IfSome behind (λ number. number < length self.now.arrivals) }
+        ensures found { IfSome result (IsMarkedBefore self.now marks.now behind element) }
+        ensures none { result ≡ None → (number : ℕ) → ¬ IsMarkedBefore self.now marks.now behind element number }
+    {
+        if let Some(near) = self.marked_near(marks, behind, element) {
+            return Some(near);
+        }
+        let number = self.number_of(element)?;
+        if is_marked(marks, number) && self.is_before(behind, number) {
+            Some(number)
+        } else {
+            None
+        }
+    }
+
+    // Returns the number of the element if it is the nearest marked one before the element with this number, and only a
+    // few others are between.
+    fn marked_near(&self, marks: &[bool], behind: Option<u32>, element: u32) -> Option<u32>
+        requires { IfSome behind (λ number. number < length self.now.arrivals) }
+        ensures { IfSome result (IsMarkedBefore self.now marks.now behind element) }
+    {
+        let mut found = behind?;
+        for _step in 0..MOST_STEPS {
+            if found == ROOT {
+                return None;
+            }
+            found = self.elements[found as usize].before;
+            if is_marked(marks, found) {
+                let is_it = self.elements[found as usize].element == element;
+                return is_it.then_some(found);
+            }
+        }
+        None
+    }
+
+    // Returns `true` if the element with the second number is before that with the first one, if there is one.
+    fn is_before(&self, behind: Option<u32>, number: u32) -> bool
+        requires behind { IfSome behind (λ n. n < length self.now.arrivals) }
+        requires there { number < length self.now.arrivals }
+        ensures { IsTrue result ↔ IsBefore self.now behind (arrival_at self.now.arrivals number).element }
+    {
+        let place = self.places[self.elements[number as usize].group];
+        let Some(behind) = behind else {
+            return true;
+        };
+        let place_behind = self.places[self.elements[behind as usize].group];
+        if place != place_behind {
+            return place < place_behind;
+        }
+        let chunk = &self.chunks[place];
+        chunk.position_behind(number) < chunk.position_behind(behind)
     }
 }
 

@@ -3,8 +3,8 @@
 //!
 //! Contract for the crates above: contracts see an `ElementList` as the elements in the order of the list, and as
 //! arrivals by number: each element with its stamp and its anchor. `insert` changes the list as the definition
-//! `insert_late_after` of `ra_labels` does. `nearest_before` finds the nearest kept element before another one, in the
-//! sense of the theorems.
+//! `insert_late_after` of `ra_labels` does. `lists` compares given elements with those of a replica, which marks them
+//! by number.
 //!
 //! The elements stand in chunks with room for 128. A new element moves few others, and passes a whole chunk at once if
 //! the chunk's lower bound shows that all its stamps are greater.

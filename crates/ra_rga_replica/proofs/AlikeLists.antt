@@ -1,30 +1,29 @@
 -- Lemmas on lists with the same content, and on tests that agree.
-use Rattle.std.proofs.Common.{◌≡◌, ◌≢◌, ℕ, Bool, List, ◌∷◌, Option, Some, refl, sym, ap, ◌∙◌, subst, inl, inr}
+use Rattle.std.proofs.Common.{◌≡◌, ◌≢◌, ℕ, Bool, List, ◌∷◌, Option, refl, sym, ap, ◌∙◌, subst, inl, inr}
 use Rattle.std.specs.Prelude.{Contains}
 use Rattle.std.proofs.lemmas.Bool.{cases_eq}
 use Rattle.ra_labels.specs.declared.kind.Kind.TheVariants.{Rga}
 use Rattle.ra_labels.specs.declared.label.Stamp.{Stamp}
 use Rattle.ra_labels.specs.declared.command.Command.TheVariants.{Deliver, Join}
 use Rattle.ra_labels.specs.Records.{Records}
-use Rattle.ra_labels.specs.Specification.{State, state_after}
 use Rattle.ra_labels.specs.TheoremTerms.{HasNoDuplicates}
 use Rattle.ra_labels.specs.Insertion.{updates_passing}
 use Rattle.ra_labels.specs.Pending.{is_present_element, IsSettled}
 use Rattle.ra_theorems.proofs.TheoremIndex.{settled_persists-delivery, settled_persists-join, settled_persists-alike, later_command_preserves_updates_passing-delivery, later_command_preserves_updates_passing-join}
-use Rattle.ra_rga_elements.specs.ElementList.{Arrival}
+use Rattle.ra_rga_elements.specs.ElementList.{Arrival, is_marked}
 use Rattle.ra_rga_replica.specs.declared.edit.Edit.{Edit}
 use Rattle.ra_rga_replica.specs.PendingLabels.{labels_under}
 use Rattle.ra_rga_replica.specs.Edits.{element_at}
-use Rattle.ra_rga_replica.specs.ReplicaList.{ReplicaList, IsGreatestOf, IsListWith, IsListBy}
+use Rattle.ra_rga_replica.specs.ReplicaList.{ReplicaList, is_shown_element, IsGreatestOf, IsListWith, IsListBy}
 use Rattle.ra_rga_replica.specs.Cascade.{AreAlike}
 
 -- what holds of a list holds of an equal one
 pub kept_in : {arrivals : List Arrival} {edits : List (Option Edit)} {records : Records} {had settled : ℕ → Bool}
-    (list next : ReplicaList) → next ≡ list → IsListWith list.state list.marks list.waiting arrivals edits records had
+    (list next : ReplicaList) → next ≡ list → IsListWith (λ n. is_marked list.shown n) list.marks list.waiting arrivals edits records had
     settled
-    → IsListWith next.state next.marks next.waiting arrivals edits records had settled
+    → IsListWith (λ n. is_marked next.shown n) next.marks next.waiting arrivals edits records had settled
 kept_in {arrivals = arrivals} {edits = edits} {records = records} {had = had} {settled = settled} list next is kept =
-    subst (λ (l : ReplicaList). IsListWith l.state l.marks l.waiting arrivals edits records had settled) (sym is) kept
+    subst (λ (l : ReplicaList). IsListWith (λ n. is_marked l.shown n) l.marks l.waiting arrivals edits records had settled) (sym is) kept
 
 module _ {arrivals : List Arrival} {edits : List (Option Edit)} {records : Records} where
   -- a list with the same content represents the same labels
@@ -34,7 +33,10 @@ module _ {arrivals : List Arrival} {edits : List (Option Edit)} {records : Recor
     settled = held.settled;
     kept = record {
       settles = held.kept.settles;
-      after = held.kept.after ∙ ap (λ (s : State). Some s) (sym alike.state);
+      shown = record {
+        shown = λ number known. alike.shown number ∙ held.kept.shown.shown number known;
+        others = λ number beyond. alike.shown number ∙ held.kept.shown.others number beyond;
+      };
       there = record {
         there = λ number known. alike.marks number ∙ held.kept.there.there number known;
         others = λ number beyond. alike.marks number ∙ held.kept.there.others number beyond;
@@ -50,14 +52,14 @@ module _ {arrivals : List Arrival} {edits : List (Option Edit)} {records : Recor
     greatest = subst (IsGreatestOf records had) (sym alike.greatest) held.greatest;
   }
 
-  module _ {state : State} {marks : List Bool} {waiting : List (ℕ × List ℕ)} {had settled : ℕ → Bool} where
+  module _ {shows : ℕ → Bool} {marks : List Bool} {waiting : List (ℕ × List ℕ)} {had settled : ℕ → Bool} where
     -- tests that agree on the delivered labels
     pub kept_alike : (more : ℕ → Bool) → ((n : ℕ) → had n ≡ more n)
-        → IsListWith state marks waiting arrivals edits records had settled
-        → IsListWith state marks waiting arrivals edits records more settled
+        → IsListWith shows marks waiting arrivals edits records had settled
+        → IsListWith shows marks waiting arrivals edits records more settled
     kept_alike more same kept = record {
       settles = settled_persists-alike records had more settled settled same (λ n. refl) kept.settles;
-      after = kept.after;
+      shown = kept.shown;
       there = kept.there;
       waiting_labels = record {
         waits = λ n d d_is was_had fails. kept.waiting_labels.waits n d d_is (same n ∙ was_had) fails;
@@ -71,11 +73,14 @@ module _ {arrivals : List Arrival} {edits : List (Option Edit)} {records : Recor
     -- later records in which the same labels are settled, with the same updates, preserve the invariant of these labels
     kept_left : (now : Records) → IsSettled now had settled
         → updates_passing Rga now settled ≡ updates_passing Rga records settled
-        → IsListWith state marks waiting arrivals edits records had settled
-        → IsListWith state marks waiting arrivals edits now had settled
+        → IsListWith shows marks waiting arrivals edits records had settled
+        → IsListWith shows marks waiting arrivals edits now had settled
     kept_left now settles same kept = record {
       settles = settles;
-      after = ap (state_after Rga) same ∙ kept.after;
+      shown = record {
+        shown = λ number known. kept.shown.shown number known ∙ ap (is_shown_element (element_at arrivals number)) (sym same);
+        others = kept.shown.others;
+      };
       there = record {
         there = λ number known. kept.there.there number known ∙ ap (is_present_element (element_at arrivals number)) (sym same);
         others = kept.there.others;
@@ -88,14 +93,14 @@ module _ {arrivals : List Arrival} {edits : List (Option Edit)} {records : Recor
     }
 
     -- so does a delivery, and so does a join
-    pub kept_delivered : (to m : ℕ) → IsListWith state marks waiting arrivals edits records had settled
-        → IsListWith state marks waiting arrivals edits (Deliver to m ∷ records) had settled
+    pub kept_delivered : (to m : ℕ) → IsListWith shows marks waiting arrivals edits records had settled
+        → IsListWith shows marks waiting arrivals edits (Deliver to m ∷ records) had settled
     kept_delivered to m kept =
         kept_left (Deliver to m ∷ records) (settled_persists-delivery records to m had settled kept.settles)
         (later_command_preserves_updates_passing-delivery Rga records to m settled) kept
 
-    pub kept_joined : (joined from : ℕ) → IsListWith state marks waiting arrivals edits records had settled
-        → IsListWith state marks waiting arrivals edits (Join joined from ∷ records) had settled
+    pub kept_joined : (joined from : ℕ) → IsListWith shows marks waiting arrivals edits records had settled
+        → IsListWith shows marks waiting arrivals edits (Join joined from ∷ records) had settled
     kept_joined joined from kept =
         kept_left (Join joined from ∷ records)
         (settled_persists-join records joined from had settled kept.settles)

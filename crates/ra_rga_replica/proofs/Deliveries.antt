@@ -10,7 +10,7 @@ use Rattle.ra_labels.specs.Visibility.{is_update, is_update_at, has_delivered}
 use Rattle.ra_labels.specs.NamedOrder.{greater_of}
 use Rattle.ra_labels.specs.Insertion.{or_label}
 use Rattle.ra_theorems.proofs.TheoremIndex.{label_at_each_number-found, operation_update_unique-exactly, delivered_extends_by_one-delivery, later_command_preserves_updates_passing-delivery}
-use Rattle.ra_rga_elements.specs.ElementList.{ElementList, arrival_at}
+use Rattle.ra_rga_elements.specs.ElementList.{ElementList, arrival_at, is_marked}
 use Rattle.ra_rga_replica.specs.declared.edit.Edit.{Edit}
 use Rattle.ra_rga_replica.specs.declared.edit.Edit.TheVariants.{PutsIn, Removes}
 use Rattle.ra_rga_replica.specs.Edits.{edit_at, update_of, AreElementsOf}
@@ -33,8 +33,8 @@ module _ {all : ElementList} {edits : List (Option Edit)} {records : Records} wh
   -- the list is that of the receiver after the label, and the number of steps is the number of settled labels
   pub delivered : {list : ReplicaList} {to : ℕ} (next : ReplicaList) (was : IsListOf list all.arrivals edits records to)
       (label steps : ℕ) (edit : Edit) → AreElementsOf all edits records → edit_at edits label ≡ Some edit
-      → IsListWithAfter next.state next.marks next.waiting all.arrivals edits records (has_delivered records to) was.settled label
-      steps
+      → IsListWithAfter (λ n. is_marked next.shown n) next.marks next.waiting all.arrivals edits records
+      (has_delivered records to) was.settled label steps
       → IsGreatestOf records (or_label (has_delivered records to) label) next.greatest
       → (is : IsListOf next all.arrivals edits (Deliver to label ∷ records) to)
       × (settled_count is ≡ settled_count was + steps)

@@ -55,7 +55,7 @@ module _ {arrivals : List Arrival} {edits : List (Option Edit)} {records : Recor
       element_inserted_by_one_label-other records k anchor (element_at arrivals number) stand.admitted k_in k_makes
 
   -- the element that an edit inserts, by number and by element
-  puts_same : (n : ℕ) (edit : Edit) → edit_at edits n ≡ Some edit → (number : ℕ) → number < length arrivals
+  pub puts_same : (n : ℕ) (edit : Edit) → edit_at edits n ≡ Some edit → (number : ℕ) → number < length arrivals
       → inserts_element (element_at arrivals number) (update_of arrivals edit) ≡ puts number edit
   puts_same n (PutsIn k) is number known =
       bool_same (element_at arrivals k == element_at arrivals number) (number == k)

@@ -1,13 +1,11 @@
 -- Lemmas on the list of a replica to which no label was delivered.
-use Rattle.std.proofs.Common.{◌≡◌, ℕ, ◌<◌, ◌≤◌, Bool, true, false, List, [], ◌∷◌, length, get_or, set, Some, refl, sym, ap, ◌∙◌, subst, inl, arith}
+use Rattle.std.proofs.Common.{◌≡◌, ℕ, ◌<◌, ◌≤◌, Bool, true, false, List, [], ◌∷◌, length, get_or, set, refl, sym, ◌∙◌, subst, inl, arith}
 use Rattle.std.proofs.lemmas.Bool.{false≢true}
 use Rattle.std.proofs.lemmas.List.{get_or-set_same, get_or-set_other}
-use Rattle.ra_labels.specs.declared.kind.Kind.TheVariants.{Rga}
-use Rattle.ra_labels.specs.Specification.{State, initial_state}
 use Rattle.ra_labels.specs.NamedOrder.{lowest_rank}
 use Rattle.ra_rga_elements.specs.ElementList.{root, is_marked}
 use Rattle.ra_rga_replica.specs.PendingLabels.{labels_under}
-use Rattle.ra_rga_replica.specs.ReplicaList.{IsListOf}
+use Rattle.ra_rga_replica.specs.ReplicaList.{is_shown_element, IsListOf}
 use Rattle.std.specs.Prelude.{Contains}
 use Rattle.ra_labels.specs.TheoremTerms.{HasNoDuplicates}
 use Rattle.ra_labels.specs.Pending.{is_present_element}
@@ -18,18 +16,23 @@ root_alone : (marks : List Bool) (number : ℕ) → 0 < length marks → ((k : �
 root_alone marks number some none beyond =
     get_or-set_other marks 0 number true false (λ is. omega (arith, is)) ∙ none number
 
-starts_with : (state : State) (marks : List Bool) (waiting : List (ℕ × List ℕ)) (replica : ℕ) → state ≡ initial_state Rga
+starts_with : (marks : List Bool) (waiting : List (ℕ × List ℕ)) (replica : ℕ)
     → 0 < length marks → ((k : ℕ) → is_marked marks k ≡ false) → waiting ≡ []
-    → IsListOf (record { state = state; marks = set marks 0 true; greatest = lowest_rank; waiting = waiting })
+    → IsListOf (record { marks = set marks 0 true; shown = []; greatest = lowest_rank; waiting = waiting })
     (root ∷ []) [] [] replica
-starts_with state marks waiting replica is some none empty = record {
+starts_with marks waiting replica some none empty = record {
   settled = λ n. false;
   kept = record {
     settles = record {
       had_them = λ n it. it;
       where_needed = λ l u l_in makes it. absurd (none_there l l_in);
     };
-    after = ap (λ (s : State). Some s) (sym is);
+    shown = record {
+      shown = λ number known.
+          let zero_it : number ≡ 0 = omega (arith, known) in
+          subst (λ (k : ℕ). false ≡ is_shown_element (get_or (root ∷ []) k root).element []) (sym zero_it) refl;
+      others = λ number beyond. refl;
+    };
     there = record {
       there = λ number known.
           let zero_it : number ≡ 0 = omega (arith, known) in
@@ -51,16 +54,12 @@ starts_with state marks waiting replica is some none empty = record {
   };
 }
 
-pub starts : (state : State) (marks next : List Bool) (waiting : List (ℕ × List ℕ)) (replica : ℕ) → state ≡ initial_state Rga
+pub starts : (shown marks next : List Bool) (waiting : List (ℕ × List ℕ)) (replica : ℕ) → shown ≡ []
     → 0 < length marks → ((k : ℕ) → is_marked marks k ≡ false) → next ≡ set marks 0 true → waiting ≡ []
-    → IsListOf (record { state = state; marks = next; greatest = lowest_rank; waiting = waiting }) (root ∷ []) [] []
+    → IsListOf (record { marks = next; shown = shown; greatest = lowest_rank; waiting = waiting }) (root ∷ []) [] []
     replica
-starts state marks next waiting replica is some none put empty =
-    subst (λ (ms : List Bool). IsListOf (record {
-      state = state;
-      marks = ms;
-      greatest = lowest_rank;
-      waiting =
-          waiting;
-    }) (root ∷ []) [] [] replica) (sym put)
-    (starts_with state marks waiting replica is some none empty)
+starts shown marks next waiting replica is some none put empty =
+    subst (λ (ss : List Bool). IsListOf (record { marks = next; shown = ss; greatest = lowest_rank; waiting = waiting })
+    (root ∷ []) [] [] replica) (sym is)
+    (subst (λ (ms : List Bool). IsListOf (record { marks = ms; shown = []; greatest = lowest_rank; waiting = waiting })
+    (root ∷ []) [] [] replica) (sym put) (starts_with marks waiting replica some none empty))

@@ -8,7 +8,6 @@ use Rattle.std.proofs.lemmas.List.Sorted.{Contains-permutation, IsPermutation-sy
 use Rattle.std.proofs.lemmas.List.Elements.{Contains-append_left, Contains-append_right, Contains-append_cases, Contains-push_cases}
 use Rattle.ra_labels.specs.declared.kind.Kind.TheVariants.{Rga}
 use Rattle.ra_labels.specs.Records.{Records}
-use Rattle.ra_labels.specs.Specification.{State, state_after}
 use Rattle.ra_labels.specs.TheoremTerms.{HasNoDuplicates}
 use Rattle.ra_labels.specs.Insertion.{updates_passing, or_label}
 use Rattle.ra_labels.specs.Pending.{NonePending, OthersPending}
@@ -19,7 +18,7 @@ use Rattle.ra_rga_replica.specs.declared.edit.Edit.{Edit}
 use Rattle.ra_rga_replica.specs.declared.edit.Edit.TheVariants.{PutsIn, Removes}
 use Rattle.ra_rga_replica.specs.PendingLabels.{labels_under}
 use Rattle.ra_rga_replica.specs.Edits.{edit_at, needed_number, update_of, AreEditsOf}
-use Rattle.ra_rga_replica.specs.ReplicaList.{AreThere, AreWaiting, IsListWith}
+use Rattle.ra_rga_replica.specs.ReplicaList.{AreThere, AreShown, AreWaiting, IsListWith}
 use Rattle.ra_rga_replica.specs.Cascade.{puts, IsFreeing}
 use Rattle.ra_rga_replica.proofs.NoneTwice.{none_twice-append, none_twice-last, none_twice-permutation, none_twice-one, not_both, it_passes, still_passes, others_pass, passes_or_is, not_before, not_it}
 use Rattle.ra_rga_replica.proofs.Edits.{needed_marked, marked_label, AreMarksWith, there_with}
@@ -47,19 +46,19 @@ module _ {arrivals : List Arrival} {edits : List (Option Edit)} {records : Recor
       (ap passes l_num ∙ passes_it)
 
   -- the first label may follow
-  unfoldable pub first_freed : {state : State} {marks : List Bool} {waiting : List (ℕ × List ℕ)}
+  unfoldable pub first_freed : {shows : ℕ → Bool} {marks : List Bool} {waiting : List (ℕ × List ℕ)}
       {had settled : ℕ → Bool}
       (label : ℕ) (edit : Edit) → AreEditsOf arrivals edits records
-      → IsListWith state marks waiting arrivals edits records had settled → edit_at edits label ≡ Some edit
+      → IsListWith shows marks waiting arrivals edits records had settled → edit_at edits label ≡ Some edit
       → had label ≡ false → is_marked marks (needed_number arrivals edit) ≡ true
-      → IsFreeing state marks [] (label ∷ []) arrivals edits records had settled label
+      → IsFreeing shows marks [] (label ∷ []) arrivals edits records had settled label
   first_freed {had = had} {settled = settled} label edit stand kept is new needs =
       let (had_them, none, others) = (settled_not_pending records had settled).0 kept.settles in
       record {
         passes = settled;
         had_them = λ n passes. still_passes had label n (had_them n passes);
         none_waits = none;
-        after = kept.after;
+        shown = kept.shown;
         there = kept.there;
         older = λ n passes. passes;
         only = λ n passes. inl passes;
@@ -133,13 +132,13 @@ pub last_there : (ready : List ℕ) (label : ℕ) → Contains (ready ++ label �
 last_there ready label = Contains-append_right ready (label ∷ []) label (at_head label [] label refl)
 
 -- the next label follows
-module _ {arrivals : List Arrival} {edits : List (Option Edit)} {records : Records} {state : State} {marks : List Bool}
+module _ {arrivals : List Arrival} {edits : List (Option Edit)} {records : Records} {shows : ℕ → Bool} {marks : List Bool}
     {labels : List ℕ} {had settled : ℕ → Bool} {first : ℕ} where
-  pub follows : (ready : List ℕ) (next : State) (next_marks : List Bool) (more : List ℕ) (label : ℕ) (edit : Edit)
+  pub follows : (ready : List ℕ) (next : ℕ → Bool) (next_marks : List Bool) (more : List ℕ) (label : ℕ) (edit : Edit)
       → AreEditsOf arrivals edits records
-      → (free : IsFreeing state marks labels (ready ++ label ∷ []) arrivals edits records had settled first)
+      → (free : IsFreeing shows marks labels (ready ++ label ∷ []) arrivals edits records had settled first)
       → edit_at edits label ≡ Some edit
-      → state_after Rga (updates_passing Rga records (or_label free.passes label)) ≡ Some next
+      → AreShown next arrivals records (or_label free.passes label)
       → AreMarksWith marks next_marks edit → AreFreedBy arrivals edits had settled edit more
       → IsFreeing next next_marks (labels ++ label ∷ []) (ready ++ more) arrivals edits records had settled first
   follows ready next next_marks more label edit stand free is after with_it freed =
@@ -173,7 +172,7 @@ module _ {arrivals : List Arrival} {edits : List (Option Edit)} {records : Recor
           | inr is_it ↦ ap (or_label had first) is_it ∙ its_had
         ];
         none_waits = none_waits_with stand free.none_waits free.there label edit is its_new needs;
-        after = after;
+        shown = after;
         there = there_with stand free.there label edit is its_new with_it;
         older = λ n it. still_passes passes label n (free.older n it);
         only = λ n it. elim (passes_or_is passes label n it) [

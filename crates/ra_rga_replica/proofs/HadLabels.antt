@@ -5,7 +5,6 @@ use Rattle.std.proofs.lemmas.Bool.{cases_eq, false_from_ne_true}
 use Rattle.std.proofs.lemmas.Option.{same_Some}
 use Rattle.std.proofs.lemmas.List.Elements.{Contains-append_left, Contains-append_right, Contains-push_cases}
 use Rattle.ra_labels.specs.Records.{Records}
-use Rattle.ra_labels.specs.Specification.{State}
 use Rattle.ra_labels.specs.TheoremTerms.{HasNoDuplicates}
 use Rattle.ra_labels.specs.Insertion.{or_label}
 use Rattle.ra_labels.specs.Pending.{IsSettled}
@@ -49,20 +48,20 @@ from_added {waiting = waiting} next needed label number n added there = elim (ca
   | inr other ↦ inl (subst (λ ls. Contains ls n) (added.others number other) there)
 ]
 
-module _ {arrivals : List Arrival} {edits : List (Option Edit)} {records : Records} {state : State} {marks : List Bool}
+module _ {arrivals : List Arrival} {edits : List (Option Edit)} {records : Records} {shows : ℕ → Bool} {marks : List Bool}
     {waiting : List (ℕ × List ℕ)} {had settled : ℕ → Bool} where
   -- the label is not settled
-  pub not_settled : IsListWith state marks waiting arrivals edits records had settled → (label : ℕ) → had label ≡ false
+  pub not_settled : IsListWith shows marks waiting arrivals edits records had settled → (label : ℕ) → had label ≡ false
       → settled label ≡ false
   not_settled kept label new =
       false_from_ne_true (settled label) (λ it. not_both (had label) new (kept.settles.had_them label it))
 
   -- the label is pending
   pub held_back : (next : List (ℕ × List ℕ)) (label : ℕ) (edit : Edit) → AreEditsOf arrivals edits records
-      → IsListWith state marks waiting arrivals edits records had settled → edit_at edits label ≡ Some edit
+      → IsListWith shows marks waiting arrivals edits records had settled → edit_at edits label ≡ Some edit
       → had label ≡ false
       → is_marked marks (needed_number arrivals edit) ≡ false → IsAdded waiting next (needed_number arrivals edit) label
-      → IsListWithAfter state marks next arrivals edits records had settled label 0
+      → IsListWithAfter shows marks next arrivals edits records had settled label 0
   held_back next label edit stand kept is new missing added =
       let (l, l_in, l_num, l_makes) = stand.makes label edit is in
       let needed = needed_number arrivals edit in
@@ -74,7 +73,7 @@ module _ {arrivals : List Arrival} {edits : List (Option Edit)} {records : Recor
         settled = settled;
         kept = record {
           settles = subst (λ (k : ℕ). IsSettled records (or_label had k) settled) l_num settles;
-          after = kept.after;
+          shown = kept.shown;
           there = kept.there;
           waiting_labels = record {
             waits = λ n d d_is had_it fails. elim (passes_or_is had label n had_it) [

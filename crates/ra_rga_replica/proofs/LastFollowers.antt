@@ -1,4 +1,4 @@
--- Lemmas on the state after all labels have followed.
+-- Lemmas on the list after all labels have followed.
 use Rattle.std.proofs.Common.{◌≡◌, ℕ, ◌<◌, ◌≤◌, Bool, true, false, cond, List, [], ◌∷◌, ◌++◌, filter, map, length, Option, Some, None, refl, sym, ap, ◌∙◌, subst, inl, inr, arith}
 use Rattle.std.specs.Prelude.{Contains, flat_map}
 use Rattle.std.specs.Option.{option_map_or}
@@ -16,7 +16,6 @@ use Rattle.ra_labels.specs.declared.operation.Query.{Query}
 use Rattle.ra_labels.specs.declared.label.Label.{Label}
 use Rattle.ra_labels.specs.Records.{Records, labels_of}
 use Rattle.ra_labels.specs.Rewriting.{Part, Half, Act, Does, Asks, acts_of, part_of, parts_of, update_of as act_update, updates_of}
-use Rattle.ra_labels.specs.Specification.{State, state_after}
 use Rattle.ra_labels.specs.NamedOrder.{named_labels}
 use Rattle.ra_labels.specs.TheoremTerms.{HasNoDuplicates}
 use Rattle.ra_labels.specs.Insertion.{updates_among, updates_passing, or_label}
@@ -29,7 +28,7 @@ use Rattle.ra_rga_replica.specs.declared.edit.Edit.{Edit}
 use Rattle.ra_rga_replica.specs.declared.edit.Edit.TheVariants.{PutsIn, Removes}
 use Rattle.ra_rga_replica.specs.PendingLabels.{labels_under}
 use Rattle.ra_rga_replica.specs.Edits.{edit_at, needed_number, AreElementsOf, AreEditsOf}
-use Rattle.ra_rga_replica.specs.ReplicaList.{IsListWith}
+use Rattle.ra_rga_replica.specs.ReplicaList.{AreShown, IsListWith}
 use Rattle.ra_rga_replica.specs.Cascade.{puts, is_put_by, freed_under, IsFreeing, IsListWithAfter}
 use Rattle.ra_rga_replica.proofs.NoneTwice.{not_both, still_passes, others_pass}
 use Rattle.ra_rga_replica.proofs.Edits.{edits_stand, needed_marked, needed_known, marked_label, root_marked, AreMarksWith}
@@ -52,19 +51,19 @@ puts_at (Some (Removes k)) number is = absurd (false≢true is)
 at_puts : (o : Option Edit) (number : ℕ) → o ≡ Some (PutsIn number) → option_map_or (puts number) o false ≡ true
 at_puts o number is = ap (λ (d : Option Edit). option_map_or (puts number) d false) is ∙ eq-eqb number number refl
 
-module _ {arrivals : List Arrival} {edits : List (Option Edit)} {records : Records} {old_state : State}
-    {old_marks : List Bool} {waiting : List (ℕ × List ℕ)} {had settled : ℕ → Bool} {state : State} {marks : List Bool}
+module _ {arrivals : List Arrival} {edits : List (Option Edit)} {records : Records} {old_shows : ℕ → Bool}
+    {old_marks : List Bool} {waiting : List (ℕ × List ℕ)} {had settled : ℕ → Bool} {shows : ℕ → Bool} {marks : List Bool}
     {labels : List ℕ} {first : ℕ} where
   -- all labels have followed, and exactly the pending labels that are not settled remain pending
   all_settled : (left : List (ℕ × List ℕ)) → AreEditsOf arrivals edits records
-      → IsListWith old_state old_marks waiting arrivals edits records had settled
-      → (free : IsFreeing state marks labels [] arrivals edits records had settled first)
+      → IsListWith old_shows old_marks waiting arrivals edits records had settled
+      → (free : IsFreeing shows marks labels [] arrivals edits records had settled first)
       → ((number n : ℕ) → Contains (labels_under left number) n
       → Contains (labels_under waiting number) n × (free.passes n ≡ false))
       → ((number n : ℕ) → Contains (labels_under waiting number) n → is_marked marks number ≡ false
       → Contains (labels_under left number) n)
       → ((number : ℕ) → HasNoDuplicates (labels_under left number))
-      → IsListWithAfter state marks left arrivals edits records had settled first (length labels)
+      → IsListWithAfter shows marks left arrivals edits records had settled first (length labels)
   all_settled left stand kept free waited waits_on once =
       let passes = free.passes in
       let first_passes : passes first ≡ true = elim free.itself [
@@ -91,7 +90,7 @@ module _ {arrivals : List Arrival} {edits : List (Option Edit)} {records : Recor
                 ap (λ (v : Update). is_present_element (dependency_of v) (updates_passing Rga records passes)) (sym d_does)
                 ∙ needed_marked stand free.there l.number d d_is ∙ missing l.number d d_is had_it fails),
           );
-          after = free.after;
+          shown = free.shown;
           there = free.there;
           waiting_labels = record {
             waits = λ n d d_is had_it fails. waits_on (needed_number arrivals d) n
@@ -108,20 +107,20 @@ module _ {arrivals : List Arrival} {edits : List (Option Edit)} {records : Recor
         count = free.count;
       }
 
-module _ {arrivals : List Arrival} {edits : List (Option Edit)} {records : Records} {state : State} {marks : List Bool}
+module _ {arrivals : List Arrival} {edits : List (Option Edit)} {records : Records} {shows : ℕ → Bool} {marks : List Bool}
     {waiting : List (ℕ × List ℕ)} {had settled : ℕ → Bool} where
   -- only one label follows, since none depends on the element that it inserts
-  pub goes_in : (next_state : State) (next_marks : List Bool) (label : ℕ) (edit : Edit)
-      → AreEditsOf arrivals edits records → IsListWith state marks waiting arrivals edits records had settled
+  pub goes_in : (next_shows : ℕ → Bool) (next_marks : List Bool) (label : ℕ) (edit : Edit)
+      → AreEditsOf arrivals edits records → IsListWith shows marks waiting arrivals edits records had settled
       → edit_at edits label ≡ Some edit → had label ≡ false
       → is_marked marks (needed_number arrivals edit) ≡ true
-      → state_after Rga (updates_passing Rga records (or_label settled label)) ≡ Some next_state
+      → AreShown next_shows arrivals records (or_label settled label)
       → AreMarksWith marks next_marks edit
       → ((number : ℕ) → puts number edit ≡ true → labels_under waiting number ≡ [])
-      → IsListWithAfter next_state next_marks waiting arrivals edits records had settled label 1
+      → IsListWithAfter next_shows next_marks waiting arrivals edits records had settled label 1
   unfolding first_freed
-  goes_in next_state next_marks label edit stand kept is new needs after with_it none_for =
-      let free = follows [] next_state next_marks [] label edit stand
+  goes_in next_shows next_marks label edit stand kept is new needs after with_it none_for =
+      let free = follows [] next_shows next_marks [] label edit stand
       (first_freed label edit stand kept is new needs) is after with_it (record {
         only = λ n found. absurd (none_there n found);
         all = λ n d d_is was_had waits puts_it. absurd (none_there n
@@ -143,14 +142,14 @@ module _ {arrivals : List Arrival} {edits : List (Option Edit)} {records : Recor
       ))
       (λ number n found missing. found) kept.waiting_labels.once
 
-module _ {all : ElementList} {edits : List (Option Edit)} {records : Records} {old_state : State}
-    {old_marks : List Bool} {waiting : List (ℕ × List ℕ)} {had settled : ℕ → Bool} {state : State} {marks : List Bool}
+module _ {all : ElementList} {edits : List (Option Edit)} {records : Records} {old_shows : ℕ → Bool}
+    {old_marks : List Bool} {waiting : List (ℕ × List ℕ)} {had settled : ℕ → Bool} {shows : ℕ → Bool} {marks : List Bool}
     {labels : List ℕ} {first : ℕ} where
   pub all_follow : (left : List (ℕ × List ℕ)) → AreElementsOf all edits records
-      → IsListWith old_state old_marks waiting all.arrivals edits records had settled
-      → IsFreeing state marks labels [] all.arrivals edits records had settled first
+      → IsListWith old_shows old_marks waiting all.arrivals edits records had settled
+      → IsFreeing shows marks labels [] all.arrivals edits records had settled first
       → ((number : ℕ) → labels_under left number ≡ freed_under edits labels (labels_under waiting) number)
-      → IsListWithAfter state marks left all.arrivals edits records had settled first (length labels)
+      → IsListWithAfter shows marks left all.arrivals edits records had settled first (length labels)
   all_follow left stands kept free says =
       let stand = edits_stand stands in
       let passes = free.passes in
@@ -244,9 +243,9 @@ few_updates passes (label ∷ labels) =
     )
 
 -- so at most all labels follow
-pub not_many : {all : ElementList} {edits : List (Option Edit)} {records : Records} {state : State} {marks : List Bool}
+pub not_many : {all : ElementList} {edits : List (Option Edit)} {records : Records} {shows : ℕ → Bool} {marks : List Bool}
     {labels ready : List ℕ} {had settled : ℕ → Bool} {first : ℕ} → AreElementsOf all edits records
-    → IsFreeing state marks labels ready all.arrivals edits records had settled first → length labels ≤ length edits
+    → IsFreeing shows marks labels ready all.arrivals edits records had settled first → length labels ≤ length edits
 not_many {records = records} stand free = omega (
   arith,
   free.count,

@@ -1,6 +1,7 @@
 -- Lemmas on one more label that was not delivered.
 use Rattle.std.proofs.Common.{◌≡◌, ℕ, ◌<◌, ◌≤◌, Bool, true, false, List, [], ◌∷◌, ◌++◌, length, Option, Some, None, refl, sym, ap, ◌∙◌, subst, inl, inr, arith}
-use Rattle.std.specs.Prelude.{◌==◌, ◌&&◌, ◌||◌, Contains}
+use Rattle.std.specs.Prelude.{◌==◌, ◌&&◌, ◌||◌, not, Contains}
+use Rattle.std.specs.List.{list_any}
 use Rattle.std.proofs.lemmas.Bool.{false≢true, cases_lt, ne_eqb, and_right}
 use Rattle.std.proofs.lemmas.List.{get_or_append_left, length-append}
 use Rattle.ra_labels.specs.declared.kind.Kind.TheVariants.{Rga}
@@ -10,16 +11,16 @@ use Rattle.ra_labels.specs.declared.command.Command.TheVariants.{Deliver, Join}
 use Rattle.ra_labels.specs.Records.{Records, label_count, labels_of}
 use Rattle.ra_labels.specs.HistorySoFar.{NextOperation, operate, label_of}
 use Rattle.ra_labels.specs.Visibility.{is_update, is_update_at, has_delivered}
-use Rattle.ra_labels.specs.Specification.{State, state_after}
+use Rattle.ra_labels.specs.declared.operation.Update.{Update}
 use Rattle.ra_labels.specs.Insertion.{updates_passing}
-use Rattle.ra_labels.specs.Pending.{is_present_element}
+use Rattle.ra_labels.specs.Pending.{is_present_element, removes_element}
 use Rattle.ra_labels.proofs.Members.{head_or_behind, behind_head}
 use Rattle.ra_theorems.proofs.TheoremIndex.{settled_persists-operation, later_command_preserves_updates_passing-operation}
 use Rattle.ra_rga_elements.specs.ElementList.{Arrival}
 use Rattle.ra_rga_replica.specs.declared.edit.Edit.{Edit}
 use Rattle.ra_rga_replica.specs.PendingLabels.{labels_under}
 use Rattle.ra_rga_replica.specs.Edits.{edit_at, element_at, needed_number}
-use Rattle.ra_rga_replica.specs.ReplicaList.{IsListWith, IsGreatestOf}
+use Rattle.ra_rga_replica.specs.ReplicaList.{is_shown_element, IsListWith, IsGreatestOf}
 use Rattle.ra_rga_replica.proofs.NoneTwice.{not_both}
 use Rattle.ra_rga_replica.proofs.Edits.{edit_there}
 use Rattle.ra_rga_replica.proofs.HadLabels.{not_settled}
@@ -65,6 +66,11 @@ pub still_edit : (edits : List (Option Edit)) (d : Option Edit) (n : ℕ) (edit 
     → edit_at (edits ++ d ∷ []) n ≡ Some edit
 still_edit edits d n edit is = get_or_append_left edits (d ∷ []) None n (edit_there edits n edit is) ∙ is
 
+-- an element that is not present is not shown
+not_shown : (x : ℕ) (updates : List Update) → is_present_element x updates ≡ false
+    → is_shown_element x updates ≡ false
+not_shown x updates missing = ap (λ b. b && not (x == 0 || list_any (removes_element x) updates)) missing
+
 -- later elements, none of which is present
 pub record AreLonger (arrivals later : List Arrival) (records : Records) (settled : ℕ → Bool) : Type 0 where
   pub same : (number : ℕ) → number < length arrivals → element_at later number ≡ element_at arrivals number
@@ -80,14 +86,14 @@ none_longer arrivals records settled = record {
   fresh = λ number beyond known. absurd (omega (arith, beyond, known));
 }
 
-module _ {state : State} {marks : List Bool} {waiting : List (ℕ × List ℕ)} {arrivals : List Arrival}
+module _ {shows : ℕ → Bool} {marks : List Bool} {waiting : List (ℕ × List ℕ)} {arrivals : List Arrival}
     {edits : List (Option Edit)} {records : Records} {test settled : ℕ → Bool} where
   pub kept_known : (later : List Arrival) (d : Option Edit) (next : NextOperation)
-      → IsListWith state marks waiting arrivals edits records test settled → test (label_count records) ≡ false
+      → IsListWith shows marks waiting arrivals edits records test settled → test (label_count records) ≡ false
       → length edits ≡ label_count records
       → AreLonger arrivals later (operate next ∷ records) settled
       → ((n : ℕ) (edit : Edit) → edit_at edits n ≡ Some edit → needed_number later edit ≡ needed_number arrivals edit)
-      → IsListWith state marks waiting later (edits ++ d ∷ []) (operate next ∷ records) test settled
+      → IsListWith shows marks waiting later (edits ++ d ∷ []) (operate next ∷ records) test settled
   kept_known later d next kept new counted longer needs =
       let now = operate next ∷ records in
       let same = later_command_preserves_updates_passing-operation Rga records next settled
@@ -95,7 +101,18 @@ module _ {state : State} {marks : List Bool} {waiting : List (ℕ × List ℕ)} 
       record {
         settles =
             settled_persists-operation records next test settled new kept.settles;
-        after = ap (state_after Rga) same ∙ kept.after;
+        shown = record {
+          shown = λ number known. elim (cases_lt number (length arrivals)) [
+            | inl old ↦
+                kept.shown.shown number old ∙ ap (is_shown_element (element_at arrivals number)) (sym same)
+                ∙ ap (λ x. is_shown_element x (updates_passing Rga now settled)) (sym (longer.same number old))
+            | inr beyond ↦
+                kept.shown.others number beyond
+                ∙ sym (not_shown (element_at later number) (updates_passing Rga now settled)
+                (longer.fresh number beyond known))
+          ];
+          others = λ number beyond. kept.shown.others number (omega (arith, beyond, longer.more));
+        };
         there = record {
           there = λ number known. elim (cases_lt number (length arrivals)) [
             | inl old ↦

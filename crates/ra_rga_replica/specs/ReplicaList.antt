@@ -1,25 +1,26 @@
 -- The list of a replica, as contracts describe it, and the condition that it is that of records.
-use Rattle.std.specs.Prelude.{◌≡◌, ◌⊎◌, ℕ, ◌<◌, ◌≤◌, Bool, true, false, List, length, Option, Some, Contains}
+use Rattle.std.specs.Prelude.{◌≡◌, ◌⊎◌, ℕ, ◌<◌, ◌≤◌, ◌==◌, ◌||◌, ◌&&◌, not, Bool, true, false, List, length, Option, Some, Contains}
+use Rattle.std.specs.List.{list_any}
 use Rattle.ra_labels.specs.declared.kind.Kind.TheVariants.{Rga}
+use Rattle.ra_labels.specs.declared.operation.Update.{Update}
 use Rattle.ra_labels.specs.declared.label.Stamp.{Stamp}
 use Rattle.ra_labels.specs.declared.label.Label.{Label}
 use Rattle.ra_labels.specs.Records.{Records, labels_of}
 use Rattle.ra_labels.specs.Visibility.{has_delivered}
-use Rattle.ra_labels.specs.Specification.{State, state_after}
 use Rattle.ra_labels.specs.NamedOrder.{lowest_rank}
 use Rattle.ra_labels.specs.TheoremTerms.{IsStampBelow, HasNoDuplicates}
 use Rattle.ra_labels.specs.Insertion.{updates_passing}
-use Rattle.ra_labels.specs.Pending.{is_present_element, IsSettled}
+use Rattle.ra_labels.specs.Pending.{is_present_element, removes_element, IsSettled}
 use Rattle.ra_rga_elements.specs.ElementList.{Arrival, ElementList, is_marked}
 use Rattle.ra_rga_replica.specs.declared.edit.Edit.{Edit}
 use Rattle.ra_rga_replica.specs.PendingLabels.{labels_under}
 use Rattle.ra_rga_replica.specs.Edits.{edit_at, element_at, needed_number, AreElementsOf}
 
 pub record ReplicaList : Type 0 where
-  -- the state after the settled ones of the updates that were delivered to the replica
-  pub state : State
   -- for each element, by its number, whether it is in the list
   pub marks : List Bool
+  -- for each element, by its number, whether a read shows it
+  pub shown : List Bool
   -- the greatest own stamp of a label that was delivered to the replica
   pub greatest : Stamp
   -- for elements, by their numbers, the labels that are pending on them
@@ -31,6 +32,18 @@ pub record AreThere (marks : List Bool) (arrivals : List Arrival) (records : Rec
   pub there : (number : ℕ) → number < length arrivals
       → is_marked marks number ≡ is_present_element (element_at arrivals number) (updates_passing Rga records settled)
   pub others : (number : ℕ) → length arrivals ≤ number → is_marked marks number ≡ false
+
+-- `true` if the element is present after the updates, is not the root, and none of them removes it
+abbrev pub is_shown_element : ℕ → List Update → Bool
+is_shown_element x updates =
+    is_present_element x updates && not (x == 0 || list_any (removes_element x) updates)
+
+-- holds if the elements that a test shows are those that are shown after the settled updates
+pub record AreShown (shows : ℕ → Bool) (arrivals : List Arrival) (records : Records)
+    (settled : ℕ → Bool) : Type 0 where
+  pub shown : (number : ℕ) → number < length arrivals
+      → shows number ≡ is_shown_element (element_at arrivals number) (updates_passing Rga records settled)
+  pub others : (number : ℕ) → length arrivals ≤ number → shows number ≡ false
 
 -- holds if no delivered label has a stamp above this one, and one has this stamp or it is the lowest rank
 pub record IsGreatestOf (records : Records) (has_delivered : ℕ → Bool) (greatest : Stamp) : Type 0 where
@@ -49,12 +62,12 @@ pub record AreWaiting (waiting : ℕ → List ℕ) (arrivals : List Arrival) (ed
       × (needed_number arrivals edit ≡ number) × (has_delivered n ≡ true) × (settled n ≡ false)
   pub once : (number : ℕ) → HasNoDuplicates (waiting number)
 
--- Holds if the state and the marks are those after the settled ones of the delivered labels, and the others are
--- pending.
-pub record IsListWith (state : State) (marks : List Bool) (waiting : List (ℕ × List ℕ)) (arrivals : List Arrival)
+-- Holds if the shown elements and the marks are those after the settled ones of the delivered labels, and the others
+-- are pending.
+pub record IsListWith (shows : ℕ → Bool) (marks : List Bool) (waiting : List (ℕ × List ℕ)) (arrivals : List Arrival)
     (edits : List (Option Edit)) (records : Records) (has_delivered settled : ℕ → Bool) : Type 0 where
   pub settles : IsSettled records has_delivered settled
-  pub after : state_after Rga (updates_passing Rga records settled) ≡ Some state
+  pub shown : AreShown shows arrivals records settled
   pub there : AreThere marks arrivals records settled
   pub waiting_labels : AreWaiting (labels_under waiting) arrivals edits records has_delivered settled
 
@@ -63,7 +76,7 @@ pub record IsListBy (list : ReplicaList) (arrivals : List Arrival) (edits : List
     (has_delivered : ℕ → Bool) : Type 0 where
   -- which labels are settled
   pub settled : ℕ → Bool
-  pub kept : IsListWith list.state list.marks list.waiting arrivals edits records has_delivered settled
+  pub kept : IsListWith (is_marked list.shown) list.marks list.waiting arrivals edits records has_delivered settled
   pub greatest : IsGreatestOf records has_delivered list.greatest
 
 -- holds if the list is that of the replica

@@ -1,12 +1,13 @@
-//! The list of one replica of an RGA: the state after its settled updates, and its pending updates.
+//! The list of one replica of an RGA: the elements after its settled updates, and its pending updates.
 //!
 //! Contract for the crates above: a `ReplicaList` represents what was delivered to a replica in records (`IsListOf`).
-//! Its state is that of the settled updates in the named order; all other updates are pending. With a label that is
-//! issued or delivered, it becomes the list of the records with this label.
+//! Its elements are those after the settled updates in the named order; all other updates are pending. With a label
+//! that is issued or delivered, it becomes the list of the records with this label.
 //!
-//! An update that does not wait is one step of the state, however late it is. An insertion goes directly behind the
-//! nearest present element before it in the list of all elements (`ra_rga_elements`). The pending updates that wait for
-//! its element follow it, each by one more step. An update that waits takes no step until then.
+//! The order of the elements is that of the list of all elements (`ra_rga_elements`), so a replica keeps only which of
+//! them are present and which are shown, by their numbers. An update that does not wait is one step, however late it
+//! is: it marks its element. The pending updates that wait for an inserted element follow it, each by one more step. An
+//! update that waits takes no step until then.
 #![tactic(auto)]
 
 mod cascade;
@@ -15,6 +16,7 @@ mod number_set;
 mod pending;
 mod put;
 mod replica_list;
+mod shown;
 pub mod theorems;
 
 pub use edit::Edit;

@@ -1,37 +1,27 @@
-//! The insertion of an element behind another one, in one step of the state.
-ghost use Rattle.std.specs.Prelude.{◌≡◌, ◌==◌, ◌||◌, ℕ, unwrap_or, OnOk, OnErr};
-ghost use Rattle.ra_labels.specs.declared.operation.Update.TheVariants.{After};
-ghost use Rattle.ra_labels.specs.Specification.{step_of};
+//! The insertion of an element, in one step of the replica's list.
+ghost use Rattle.std.specs.Prelude.{◌≡◌, ◌==◌, ◌||◌, ℕ, OnOk, OnErr};
 ghost use Rattle.ra_rga_elements.specs.ElementList.{is_marked};
 
 use crate::number_set::NumberSet;
-use ra_labels::{NoMemory, Update};
-use ra_seqspec::State;
+use crate::shown::ShownElements;
+use ra_labels::NoMemory;
 
-/// Applies the insertion of an element behind another one, and adds the element's number to the set.
+/// Adds the element's number to the elements that are present and to those that are shown.
 ///
 /// # Errors
 ///
-/// `NoMemory` if allocation fails; the state and the set are unchanged.
-pub fn put_in(
-    state: &mut State,
-    there: &mut NumberSet,
-    number: u32,
-    behind: u32,
-    element: u32,
-) -> Result<(), NoMemory>
-    ensures step { OnOk result (state.new ≡ unwrap_or (step_of state.old (After behind element)) state.old) }
+/// `NoMemory` if allocation fails; the elements are unchanged.
+pub fn put_in(there: &mut NumberSet, shown: &mut ShownElements, number: u32) -> Result<(), NoMemory>
     ensures marks { OnOk result ((k : ℕ) → is_marked there.new.marks.items k
         ≡ (is_marked there.old.marks.items k || k == number)) }
-    ensures err_state { OnErr result (state.new ≡ state.old) }
+    ensures shown { OnOk result ((k : ℕ) → is_marked shown.new k ≡ (is_marked shown.old k || k == number)) }
     ensures err_marks { OnErr result ((k : ℕ)
         → is_marked there.new.marks.items k ≡ is_marked there.old.marks.items k) }
+    ensures err_shown { OnErr result ((k : ℕ) → is_marked shown.new k ≡ is_marked shown.old k) }
 {
     there.reserve(number)?;
-    state.apply(&Update::After {
-        anchor: behind,
-        element,
-    })?;
+    shown.reserve(number as usize + 1)?;
     there.put(number);
+    shown.show(number);
     Ok(())
 }

@@ -7,9 +7,10 @@
 //!   (`commuting`).
 //! - For a register or an LWW set it is the step of the delivered update or of the last one on the same element,
 //!   whichever stands later (`overriding`).
-//! - For an RGA an insertion goes directly behind the nearest present element before it, in the list of all elements
-//!   (`rga`). An update whose anchor or element is missing is pending and takes no step. A delivered insertion may
-//!   settle pending updates: those that wait for its element, then those that wait for theirs, each by one more step.
+//! - For an RGA it marks the update's element as present or no longer shown (`rga`): the order of the elements is that
+//!   of the list of all elements, in which each replica shows a part. An update whose anchor or element is missing is
+//!   pending and takes no step. A delivered insertion may settle pending updates: those that wait for its element, then
+//!   those that wait for theirs, each by one more step.
 //! - For a list it is the update's own step, a mark of its element (`kept_list`). One order of all elements is kept
 //!   besides (`ra_list_effects`), which extends the edges that the labels require.
 //!

@@ -2,7 +2,6 @@
 ghost use Rattle.std.specs.Prelude.{◌≡◌, true, None, Some, if◌then◌else◌};
 ghost use Rattle.ra_labels.specs.Specification.{answers};
 ghost use Rattle.std.specs.List.{list_all};
-ghost use Rattle.std.specs.Option.{option_copied};
 ghost use Rattle.ra_seqspec.specs.Asked.{asks_rising};
 ghost use Rattle.ra_rewrite.specs.Parts.{acts_in};
 ghost use Rattle.ra_witness.specs.Labels.{queries_in, cause_in};
@@ -20,18 +19,6 @@ pub fn cause(state: &State, parts: &Parts) -> Option<Cause>
     match parts {
         Parts::One(Part::Update(_)) => None,
         Parts::One(Part::Query(query)) | Parts::Two(query, _) => unless_answered(state, query),
-    }
-}
-
-/// Returns the cause if such a label fails, in this state or without one. Without a state no query is answered.
-pub fn cause_if_any(state: Option<&State>, parts: &Parts) -> Option<Cause>
-    requires { list_all asks_rising (queries_in (acts_in parts.now)) ≡ true }
-    ensures { result ≡ cause_in (option_copied state.entry) (acts_in parts.now) }
-{
-    match (state, parts) {
-        (_, Parts::One(Part::Update(_))) => None,
-        (Some(state), _) => cause(state, parts),
-        (None, _) => Some(Cause::Query),
     }
 }
 

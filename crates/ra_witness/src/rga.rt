@@ -1,5 +1,5 @@
-//! The effects of an RGA's labels: a late element goes behind the nearest present element before it.
-ghost use Rattle.std.specs.Prelude.{◌≡◌, ◌↔◌, ℕ, ◌<◌, ◌≤◌, ◌^◌, ◌∷◌, [], true, length, Option, Some, vec_len, vec_capacity, is_some, IsTrue, IfSome, IfOk, OnOk, OnErr};
+//! The effects of an RGA's labels: each replica shows a part of the list of all elements.
+ghost use Rattle.std.specs.Prelude.{◌≡◌, ◌↔◌, ℕ, ◌<◌, ◌≤◌, ◌^◌, ◌∷◌, [], true, length, Option, Some, None, if◌then◌else◌, vec_len, vec_capacity, is_some, IsTrue, IfSome, IfOk, OnOk, OnErr};
 ghost use Rattle.ra_labels.specs.declared.kind.Kind.TheVariants as kinds;
 ghost use Rattle.ra_labels.specs.declared.operation.Op.TheVariants as ops;
 ghost use Rattle.ra_labels.specs.declared.label.Label.{Label};
@@ -11,7 +11,8 @@ ghost use Rattle.ra_labels.specs.Rewriting.{acts_of};
 ghost use Rattle.ra_labels.specs.NamedOrder.{named_sequence};
 ghost use Rattle.ra_labels.specs.Linearization.{updates_admitted};
 ghost use Rattle.ra_labels.specs.Fault.{sequence_cause};
-ghost use Rattle.ra_labels.specs.Specification.{state_after, is_admitted};
+ghost use Rattle.ra_labels.specs.declared.reply.Cause.TheVariants as cause;
+ghost use Rattle.ra_labels.specs.Specification.{state_after, is_admitted, is_answered_after};
 ghost use Rattle.ra_labels.specs.Insertion.{delivered_updates};
 ghost use Rattle.ra_labels.specs.HistorySoFar.{history_of, NextOperation, operate};
 ghost use Rattle.ra_rewrite.specs.Parts.{acts_in};
@@ -24,9 +25,8 @@ ghost use Rattle.ra_witness.specs.Settled.{SettlesMore};
 ghost use Rattle.ra_witness.specs.Rga.{IsRgaOf, IsFoundBy, IsFoundFor, MayGrow, MayReceive};
 ghost use Rattle.ra_witness.specs.Offered.{IsOffered, IsDelivered, IsJoinedFrom};
 
-use crate::queries;
-use ra_labels::{Cause, Label, NoMemory, Op, Stamp};
-use ra_rewrite::Parts;
+use ra_labels::{Cause, Label, NoMemory, Op, Query, Stamp};
+use ra_rewrite::{Part, Parts};
 use ra_rga_elements::{ElementList, ROOT};
 use ra_rga_replica::{Edit, ReplicaList};
 use std::alloc::Global;
@@ -165,13 +165,30 @@ impl Rga {
 
     // Returns the cause if a query of the replica fails: its list does not answer it, or one of its updates is pending.
     fn cause_of_query(&self, replica: u8, parts: &Parts) -> Option<Cause>
-        requires replica { replica < vec_len self.now.lists }
-        requires rising { list_all asks_rising (queries_in (acts_in parts.now)) ≡ true }
+        requires { replica < vec_len self.now.lists }
         ensures { (initial_replicas : ℕ) (records : Records) → IsRgaOf self.now initial_replicas records
             → result
             ≡ cause_in (state_after kinds.Rga (delivered_updates kinds.Rga records replica)) (acts_in parts.now) }
     {
-        queries::cause_if_any(self.lists[replica as usize].state(), parts)
+        match parts {
+            Parts::One(Part::Update(_)) => None,
+            Parts::One(Part::Query(query)) | Parts::Two(query, _) => {
+                self.unless_answered(replica, query)
+            }
+        }
+    }
+
+    fn unless_answered(&self, replica: u8, query: &Query) -> Option<Cause>
+        requires { replica < vec_len self.now.lists }
+        ensures { (initial_replicas : ℕ) (records : Records) → IsRgaOf self.now initial_replicas records
+            → result ≡ (if is_answered_after kinds.Rga (delivered_updates kinds.Rga records replica) query.now
+            then None else Some cause.Query) }
+    {
+        if self.lists[replica as usize].admits(&self.all, query) {
+            None
+        } else {
+            Some(Cause::Query)
+        }
     }
 
     /// Adds the next label, which was admitted with what it names, and returns the number of steps, at most 1.
@@ -234,7 +251,7 @@ impl Rga {
         self.all.reserve()?;
         let number = self.all.len() as u32;
         let list = &mut self.lists[label.replica as usize];
-        let steps = list.put_own(&self.all, label.number, element, stamp, behind)?;
+        let steps = list.put_own(&self.all, label.number, stamp, behind)?;
         self.all.insert(element, stamp, behind);
         self.edits.push_reserved(Some(Edit::PutsIn(number)));
         Ok(steps)
@@ -257,7 +274,7 @@ impl Rga {
             → OnErr result (IsRgaOf self.new initial_replicas records) }
     {
         let list = &mut self.lists[label.replica as usize];
-        let steps = list.remove_own(&self.all, label.number, number)?;
+        let steps = list.remove_own(label.number, number)?;
         self.edits.push_reserved(Some(Edit::Removes(number)));
         Ok(steps)
     }
@@ -292,7 +309,7 @@ impl Rga {
     ///
     /// # Complexity
     ///
-    /// O(n), where `n` is the size of the list, with its marks and pending updates.
+    /// O(n), where `n` is the number of elements and pending updates.
     pub fn join(&mut self, from: u8) -> Result<(), NoMemory>
         requires { from < vec_len self.old.lists }
         ensures joined { (initial_replicas : ℕ) (records : Records) → IsRgaOf self.old initial_replicas records

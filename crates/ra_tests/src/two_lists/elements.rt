@@ -56,29 +56,39 @@ pub fn insert(
     Ok(true)
 }
 
-// Returns the nearest marked element before this one, unless it is the root or is not in the list.
-fn nearest(list: &ElementList, number: u32, marks: &[bool]) -> Option<u32> {
-    if number == ROOT || list.len() <= number as usize || marks.is_empty() || !marks[0] {
-        return None;
-    }
-    Some(list.nearest_before(number, marks))
-}
-
-// Returns `true` if the list finds, before each element, what the plain list has there.
-fn agrees(list: &ElementList, plain: &[Plain], marks: &[bool]) -> bool {
-    let mut before = ROOT;
+// Returns `true` if the list shows the marked elements as the plain list has them, and not without the last of them or
+// with the first two exchanged.
+fn agrees(
+    alloc: Global,
+    list: &ElementList,
+    plain: &[Plain],
+    marks: &[bool],
+) -> Result<bool, NoMemory> {
+    let mut shown = Vec::new(alloc);
     for entry in plain {
-        if entry.number != ROOT && nearest(list, entry.number, marks) != Some(before) {
-            return false;
-        }
-        if marks.get(entry.number as usize) == Some(&true) {
-            before = entry.number;
+        let is_marked = marks.get(entry.number as usize) == Some(&true);
+        if is_marked && (entry.number as usize) < list.len() {
+            shown.push(list.element(entry.number))?;
         }
     }
-    true
+    let count = shown.len();
+    if !list.lists(marks, count, shown.as_slice()) {
+        return Ok(false);
+    }
+    let Some((_, fewer)) = shown.as_slice().split_last() else {
+        return Ok(false);
+    };
+    if list.lists(marks, count, fewer) {
+        return Ok(false);
+    }
+    if count < 2 {
+        return Ok(false);
+    }
+    shown.swap(0, 1);
+    Ok(!list.lists(marks, count, shown.as_slice()))
 }
 
-// The values with which a list is compared: the plain list, and marks of all elements and of some.
+// The values with which a list is compared: the plain list, and marks of all elements but the root and of some.
 struct Beside {
     plain: Vec<Plain>,
     all: Vec<bool>,
@@ -103,8 +113,8 @@ fn root_alone(alloc: Global) -> Result<Beside, NoMemory> {
     };
     Ok(Beside {
         plain: vec![in alloc; root]?,
-        all: vec![in alloc; true]?,
-        some: vec![in alloc; true]?,
+        all: vec![in alloc; false]?,
+        some: vec![in alloc; false]?,
     })
 }
 
@@ -113,12 +123,10 @@ fn root_alone(alloc: Global) -> Result<Beside, NoMemory> {
 fn grown(alloc: Global, count: u32, anchors: Anchors, spread: u32) -> Result<bool, NoMemory> {
     let mut list = ElementList::new(alloc)?;
     let mut kept = root_alone(alloc)?;
-    let grown = grow(&mut list, &mut kept, count, anchors, spread);
-    Ok(
-        grown?
-            && agrees(&list, kept.plain.as_slice(), kept.all.as_slice())
-            && agrees(&list, kept.plain.as_slice(), kept.some.as_slice()),
-    )
+    let grown = grow(&mut list, &mut kept, count, anchors, spread)?;
+    let all = agrees(alloc, &list, kept.plain.as_slice(), kept.all.as_slice())?;
+    let some = agrees(alloc, &list, kept.plain.as_slice(), kept.some.as_slice())?;
+    Ok(grown && all && some)
 }
 
 // Returns `true` if each of them is inserted.
@@ -147,7 +155,7 @@ fn grow(
         }
         put(&mut kept.plain, Plain { number, stamp }, anchor)?;
         kept.all.push(true)?;
-        kept.some.push(number % 5 == 0)?;
+        kept.some.push(number % 50 == 0)?;
     }
     Ok(true)
 }
@@ -174,7 +182,8 @@ fn two_children(list: &mut ElementList) -> Result<bool, NoMemory> {
     }
     let looked_up = list.number_of(20) == Some(2) && list.number_of(30) == None;
     let told = list.element(1) == 10 && list.stamp(2).clock == 2 && list.anchor(2) == ROOT;
-    Ok(looked_up && told && list.is_youngest(2) && !list.is_youngest(1))
+    let marks = [false, true, true];
+    Ok(looked_up && told && list.lists(&marks, 2, &[20, 10]) && !list.lists(&marks, 2, &[10, 20]))
 }
 
 #[test]

@@ -55,7 +55,7 @@ fn put(
     stamp: Stamp,
     anchor: u32,
 ) -> u64 {
-    let steps = put_own(rt, list, all, label, element, stamp, anchor);
+    let steps = put_own(rt, list, all, label, stamp, anchor);
     assert!(rt; insert(all, element, stamp, anchor) == Ok(true));
     steps
 }
@@ -66,12 +66,11 @@ fn put_own(
     list: &mut ReplicaList,
     all: &ElementList,
     label: u32,
-    element: u32,
     stamp: Stamp,
     anchor: u32,
 ) -> u64 {
     assert!(rt; (anchor as usize) < all.len() && all.len() <= 1_000_000);
-    match list.put_own(all, label, element, stamp, anchor) {
+    match list.put_own(all, label, stamp, anchor) {
         Ok(steps) => steps,
         Err(_) => panic!(rt; "no memory"),
     }
@@ -86,7 +85,7 @@ fn remove_own(
     number: u32,
 ) -> u64 {
     assert!(rt; (number as usize) < all.len());
-    match list.remove_own(all, label, number) {
+    match list.remove_own(label, number) {
         Ok(steps) => steps,
         Err(_) => panic!(rt; "no memory"),
     }
@@ -100,12 +99,9 @@ fn copy_of(rt: &impl Abort, list: &ReplicaList) -> Own {
     }
 }
 
-// Returns `true` if the list has a state that shows exactly these elements.
-fn shows(list: &ReplicaList, elements: Vec<u32>) -> bool {
-    match list.state() {
-        Some(state) => state.admits(&Query::RgaRead(Elements::new(elements))),
-        None => false,
-    }
+// Returns `true` if the list shows exactly these elements. It shows none, not even an empty list, while a label waits.
+fn shows(list: &ReplicaList, all: &ElementList, elements: Vec<u32>) -> bool {
+    list.admits(all, &Query::RgaRead(Elements::new(elements)))
 }
 
 // Each element is inserted behind the one before it, and each third one is removed. The list is also copied.
@@ -115,7 +111,7 @@ fn labels_of_its_own_lead_to_a_state(rt: HostRuntime) {
     let mut own = list_of(&rt, rt.alloc());
     let shown = grown(&rt, rt.alloc(), &mut own.list, &mut all.list);
     assert_eq!(rt; own.list.greatest().clock, 1_999);
-    assert!(rt; shows(&copy_of(&rt, &own.list).list, shown));
+    assert!(rt; shows(&copy_of(&rt, &own.list).list, &all.list, shown));
 }
 
 // Grows the list in this way, and returns the elements that stay.
@@ -203,9 +199,11 @@ const ANOTHER: Act = Act::Put {
 
 #[test]
 fn a_new_list_shows_nothing(rt: HostRuntime) {
+    let all = all_of(&rt, rt.alloc());
     let own = list_of(&rt, rt.alloc());
     assert_eq!(rt; own.list.greatest(), LOWEST);
-    assert!(rt; shows(&own.list, Vec::new(rt.alloc())));
+    assert!(rt; shows(&own.list, &all.list, Vec::new(rt.alloc())));
+    assert!(rt; !shows(&own.list, &all.list, list_of_one(&rt, rt.alloc(), 10)));
 }
 
 // Nothing that the first of two replicas issued was delivered to the second one, which issues labels that depend on it.
@@ -218,8 +216,8 @@ fn labels_wait_for_what_is_not_there(rt: HostRuntime) {
     let waiting = [(1, BEHIND_IT, 0), (2, Act::Remove(1), 0)];
     are_issued(&rt, &mut second.list, &mut all.list, 1, &waiting);
     is_greatest(&rt, &second.list, 2, 1);
-    assert!(rt; second.list.state().is_none());
-    assert!(rt; shows(&first.list, list_of_one(&rt, rt.alloc(), 10)));
+    assert!(rt; !shows(&second.list, &all.list, Vec::new(rt.alloc())));
+    assert!(rt; shows(&first.list, &all.list, list_of_one(&rt, rt.alloc(), 10)));
 }
 
 // Asserts that the greatest stamp in the list has this clock and this replica.
@@ -247,9 +245,9 @@ fn those_that_wait_wait_at_a_replica_that_joins(rt: HostRuntime) {
     let mut own = list_of(&rt, rt.alloc());
     are_issued(&rt, &mut own.list, &mut all.list, 1, &[(1, BEHIND_IT, 0)]);
     let mut copy = copy_of(&rt, &own.list);
-    assert!(rt; copy.list.state().is_none());
+    assert!(rt; !shows(&copy.list, &all.list, Vec::new(rt.alloc())));
     are_issued(&rt, &mut copy.list, &mut all.list, 2, &[(2, ANOTHER, 1)]);
-    assert!(rt; copy.list.state().is_none());
+    assert!(rt; !shows(&copy.list, &all.list, list_of_one(&rt, rt.alloc(), 30)));
     is_greatest(&rt, &copy.list, 3, 2);
     is_greatest(&rt, &own.list, 2, 1);
 }

@@ -24,11 +24,6 @@ stamp-requires c =
     c.requires.elements.known c.args.label (PutsIn c.in-PutsIn.number)
     (c.requires.edit_of ∙ ap (λ (d : Edit). Some d) c.in-PutsIn.is)
 
-pub remove-requires : goal.remove-requires
-remove-requires c =
-    c.requires.elements.known c.args.label (Removes c.in-Removes.number)
-    (c.requires.edit_of ∙ ap (λ (d : Edit). Some d) c.in-Removes.is)
-
 pub returns-in_ok-steps-in-PutsIn-clause-got : goal.returns-in_ok-steps-in-PutsIn-clause-got
 returns-in_ok-steps-in-PutsIn-clause-got c = λ records to stand held is new once.
     let all = c.args.all.now in
@@ -48,9 +43,10 @@ returns-in_ok-steps-in-PutsIn-clause-got c = λ records to stand held is new onc
 
 pub returns-in-Removes-clause-got : goal.returns-in-Removes-clause-got
 returns-in-Removes-clause-got c = IfOk-weaker c.remove.result _ _ (λ steps got records to stand held is new once.
+    let all = c.args.all.now in
     let removes : edit_at c.args.edits.now c.args.label ≡ Some (Removes c.in-Removes.number) =
     is ∙ ap (λ (d : Edit). Some d) c.in-Removes.is in
-    let after = got c.args.edits.now records (has_delivered records to) (edits_stand stand) held removes new in
+    let after = got all.arrivals c.args.edits.now records (has_delivered records to) (edits_stand stand) held removes new in
     let top = subst (λ (s : Stamp). IsGreatestOf records (has_delivered records to) s) (sym c.remove.ensures.greatest)
     held.greatest in
     delivered c.remove.new.self held c.args.label steps (Removes c.in-Removes.number) stand removes after

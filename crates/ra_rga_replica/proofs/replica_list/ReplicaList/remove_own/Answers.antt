@@ -6,6 +6,7 @@ use Rattle.ra_labels.specs.Visibility.{has_delivered}
 use Rattle.ra_labels.specs.HistorySoFar.{operate}
 use Rattle.ra_labels.proofs.Results.{on_err}
 use Rattle.ra_theorems.proofs.TheoremIndex.{delivered_are_updates-next}
+use Rattle.ra_rga_elements.specs.ElementList.{is_marked}
 use Rattle.ra_rga_replica.specs.declared.edit.Edit.TheVariants.{Removes}
 use Rattle.ra_rga_replica.specs.Edits.{edit_at, element_at}
 use Rattle.ra_rga_replica.specs.ReplicaList.{IsGreatestOf}
@@ -20,19 +21,19 @@ pub returns-clause-removed : goal.returns-clause-removed
 unfolding known_other
 returns-clause-removed c =
     IfOk-weaker c.remove.result _ _
-    (λ steps got edits records next stand held label_is makes unstamped extended admitted.
-    let all = c.args.all.now in
+    (λ steps got all edits records next known_number stand held label_is makes unstamped extended admitted.
     let number = c.args.number in
     let more = edits ++ Some (Removes number) ∷ [] in
     let now = operate next ∷ records in
-    let grown = grown_by_removal number next stand admitted makes c.requires.number in
+    let grown = grown_by_removal number next stand admitted makes known_number in
     let known = known_other next (Some (Removes number)) (has_delivered records next.by) stand held (delivered_are_updates-next records next.by)
     (λ n. refl) in
     let is : edit_at more c.args.label ≡ Some (Removes number) =
     next_edit edits (Removes number) c.args.label (stand.count ∙ sym label_is) in
-    let after = got more now (has_delivered records next.by) grown known is
+    let after = got all.arrivals more now (has_delivered records next.by) grown known is
     (ap (has_delivered records next.by) label_is ∙ delivered_are_updates-next records next.by) in
-    let after_it = subst (λ (n : ℕ). IsListWithAfter c.remove.new.self.state c.remove.new.self.marks
+    let after_it = subst (λ (n : ℕ). IsListWithAfter (λ k. is_marked c.remove.new.self.shown k)
+    c.remove.new.self.marks
     c.remove.new.self.waiting all.arrivals more now (has_delivered records next.by) known.settled n steps) label_is after in
     let top = subst (λ (s : Stamp). IsGreatestOf records (has_delivered records next.by) s) (sym c.remove.ensures.greatest)
     held.greatest in

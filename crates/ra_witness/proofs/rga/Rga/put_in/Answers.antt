@@ -67,7 +67,7 @@ returns-clause-taken c = λ initial_replicas records next stands offered admitte
     let anchor = element_at self.all.arrivals m in
     let m_is : element_at all.arrivals m ≡ anchor = ap (λ rs. element_at rs m) room.arrivals in
     let makes = subst (λ y. HasUpdate next.op (After y x)) (sym m_is) (makes_after next.op anchor x is) in
-    let own = c.in_ok-steps.ensures.put self.edits.items records next there_still.elements was
+    let own = c.in_ok-steps.ensures.put self.edits.items records next x there_still.elements was
     (ap (λ l. l.number) offered.becomes) makes (sym (ap (λ l. l.stamp) offered.becomes) ∙ stamped) offered.fits admitted in
     let new_list = c.put_own.new.self in
     let grown : Rga = record {

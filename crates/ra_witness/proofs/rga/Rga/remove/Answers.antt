@@ -12,9 +12,6 @@ use Rattle.ra_witness.proofs.ReplicaLists.{list_read, rga_same, settles_more}
 use Rattle.ra_witness.proofs.TakenElements.{rga_removed}
 use Rattle.ra_witness.proofs.rga.Rga.remove.Goals as goal
 
-pub remove_own-requires : goal.remove_own-requires
-remove_own-requires c = record { number = c.requires.there }
-
 pub returns-in_err-steps-clause-same : goal.returns-in_err-steps-clause-same
 returns-in_err-steps-clause-same c = λ initial_replicas records stands.
     let self = c.args.self.now in
@@ -39,7 +36,7 @@ returns-clause-taken c = λ initial_replicas records next stands offered admitte
     (list_read self initial_replicas records next label list stands offered c.index_mut-list.ensures.value) in
     let removes = makes_removal next.op x is in
     let no_clock = unclocked self.all self.edits.items records stands.elements initial_replicas next label offered x is in
-    let own = c.in_ok-steps.ensures.removed self.edits.items records next stands.elements was
+    let own = c.in_ok-steps.ensures.removed self.all self.edits.items records next c.requires.there stands.elements was
     (ap (λ l. l.number) offered.becomes) removes no_clock offered.fits admitted in
     let new_list = c.remove_own.new.self in
     let grown : Rga = record {
