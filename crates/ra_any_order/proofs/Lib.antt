@@ -13,3 +13,6 @@ pub mod SetReads
 pub mod Conclusions
 pub mod ReadOutcomes
 pub mod TurnOrders
+pub mod LaterReads
+pub mod PossibleValues
+pub mod LastWrites

@@ -9,3 +9,4 @@ pub mod LabelOrder
 pub mod Outcomes
 pub mod Answers
 pub mod Found
+pub mod PossibleValues

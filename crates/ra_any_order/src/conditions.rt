@@ -190,8 +190,12 @@ fn is_possible_value(condition: &Condition, value: Option<u32>) -> bool
     !condition.after().is_empty() || (value.is_none() && condition.before().is_empty())
 }
 
-// Returns the condition that the newest updates and the previous label stand before the label.
-fn order_condition(
+/// Returns the condition that the newest updates and the previous label stand before the label.
+///
+/// # Errors
+///
+/// `NoMemory` if allocation fails.
+pub fn order_condition(
     alloc: Global,
     newest: Vec<u32>,
     previous: Option<u32>,

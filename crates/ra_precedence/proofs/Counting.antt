@@ -27,7 +27,7 @@ counted_more labels numbers now i more within low each is b =
           )
     ]
 
-open_push : (conditions : List Condition) (condition : Condition) (b : ℕ)
+pub open_push : (conditions : List Condition) (condition : Condition) (b : ℕ)
     → open_count (conditions ++ condition ∷ []) [] b ≡ open_count conditions [] b + times b condition.before
 open_push [] condition b = omega arith
 open_push (first ∷ conditions) condition b = let rest = open_push conditions condition b in omega (arith, rest)

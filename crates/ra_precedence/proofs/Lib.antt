@@ -15,3 +15,6 @@ pub mod NamedBelow
 pub mod TheoremIndex
 pub mod HeldLabels
 pub mod PositionLists
+pub mod HeldSets
+pub mod Lasts
+pub mod DistinctLabels

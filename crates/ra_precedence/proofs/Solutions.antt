@@ -15,16 +15,16 @@ use Rattle.ra_precedence.proofs.ReadAt.{read_at}
 use Rattle.ra_precedence.proofs.Steps.{before_left, before_seam}
 
 -- the reverse of a list
-times_reverse : (b : ℕ) (xs : List ℕ) → times b (reverse xs) ≡ times b xs
+pub times_reverse : (b : ℕ) (xs : List ℕ) → times b (reverse xs) ≡ times b xs
 times_reverse b xs = sum_by-IsPermutation (one_if b) xs (reverse xs) (IsPermutation-reverse xs)
 
-in_reverse : (b : ℕ) (xs : List ℕ) → Contains xs b → Contains (reverse xs) b
+pub in_reverse : (b : ℕ) (xs : List ℕ) → Contains xs b → Contains (reverse xs) b
 in_reverse b xs there = there-times b (reverse xs) (let some = times-there b xs there in omega (arith, some, times_reverse b xs))
 
-from_reverse : (b : ℕ) (xs : List ℕ) → Contains (reverse xs) b → Contains xs b
+pub from_reverse : (b : ℕ) (xs : List ℕ) → Contains (reverse xs) b → Contains xs b
 from_reverse b xs there = there-times b xs (let some = times-there b (reverse xs) there in omega (arith, some, times_reverse b xs))
 
-before_reverse : (xs : List ℕ) (a b : ℕ) → IsBefore xs a b → IsBefore (reverse xs) b a
+pub before_reverse : (xs : List ℕ) (a b : ℕ) → IsBefore xs a b → IsBefore (reverse xs) b a
 before_reverse [] a b is = absurd is
 before_reverse (x ∷ xs) a b is = subst (λ ys. IsBefore ys b a) (sym (reverse-append (x ∷ []) xs)) (elim is [
   | inl both ↦ before_seam (reverse xs) (x ∷ []) b a (in_reverse b xs both.1) (at_head x [] a both.0)
@@ -34,7 +34,7 @@ before_reverse (x ∷ xs) a b is = subst (λ ys. IsBefore ys b a) (sym (reverse-
 module _ (count : ℕ) (conditions : List Condition) (numbers placed : List ℕ) (named : NameOnlyBelow count conditions)
     (len : length numbers ≡ count) (all : AllArePlaced conditions numbers placed) where
   -- a label below the count is placed exactly if it is open nowhere
-  placed_times : (b : ℕ) → b < count → get_or numbers b 0 ≡ 0 → times b placed ≡ 1
+  pub placed_times : (b : ℕ) → b < count → get_or numbers b 0 ≡ 0 → times b placed ≡ 1
   placed_times b low none =
       all.used.placed_are.once b (rw len low)
       ∙ cond-true (get_or numbers b 0 == 0) 1 0 (eq-eqb (get_or numbers b 0) 0 none)
@@ -77,7 +77,7 @@ module _ (count : ℕ) (conditions : List Condition) (numbers placed : List ℕ)
 
   module _ (set : List ℕ) (set_is : (b : ℕ) → Contains set b ↔ (0 < get_or numbers b 0)) where
     -- a label that is placed has been used
-    used_there : (c : ℕ) → Contains placed c → Contains (take (length placed) placed) c
+    pub used_there : (c : ℕ) → Contains placed c → Contains (take (length placed) placed) c
     used_there c there = subst (λ xs. Contains xs c) (sym (take_all (length placed) placed (omega arith))) there
 
     pub stuck : 0 < length set → IsStuck conditions set

@@ -7,12 +7,12 @@ use Rattle.ra_labels.proofs.Members.{behind_head, none_there}
 use Rattle.ra_precedence.specs.Conditions.{Condition, MeetsAll, IsStuck}
 use Rattle.ra_precedence.proofs.Times.{times_head, times-there, once_each, each_once, behind_there}
 
-once_behind : (x : ℕ) (xs : List ℕ) → EachOnce (x ∷ xs) → EachOnce xs
+pub once_behind : (x : ℕ) (xs : List ℕ) → EachOnce (x ∷ xs) → EachOnce xs
 once_behind x xs once = each_once xs (λ b.
     let most = once_each (x ∷ xs) once b in
     omega (arith, most, times_head b x xs))
 
-head_not_behind : (x : ℕ) (xs : List ℕ) → EachOnce (x ∷ xs) → ¬ Contains xs x
+pub head_not_behind : (x : ℕ) (xs : List ℕ) → EachOnce (x ∷ xs) → ¬ Contains xs x
 head_not_behind x xs once there =
     let most = once_each (x ∷ xs) once x in
     let some = times-there x xs there in
@@ -20,7 +20,7 @@ head_not_behind x xs once there =
     omega (arith, most, some, both, times_head x x xs, times_head x x [])
 
 -- if each member of a set in the order stands before another one, no member is in the order
-none_last : (set order : List ℕ) → EachOnce order
+pub none_last : (set order : List ℕ) → EachOnce order
     → ((b : ℕ) → Contains set b → Contains order b → (c : ℕ) × Contains set c × IsBefore order b c)
     → (b : ℕ) → Contains set b → ¬ Contains order b
 none_last set [] once each b among there = none_there b there

@@ -91,8 +91,13 @@ pub fn name_only_below(count: u32, conditions: &[Condition]) -> bool
     true
 }
 
-// Returns `true` if each of the labels is below the count.
-fn are_below(count: u32, labels: &[u32]) -> bool
+/// Returns `true` if each of the labels is below the count, as `Solver::last_of` requires.
+///
+/// # Complexity
+///
+/// O(n), with `n` the number of labels.
+pub fn are_below(count: u32, labels: &[u32]) -> bool
+    // If the result is `true`, the labels are below the count.
     ensures { IsTrue result → (b : ℕ) → Contains labels.now b → b < count }
 {
     for label in labels {

@@ -4,7 +4,8 @@
 //! precedence constraints (Möhring, Skutella and Stork, SIAM J. Comput. 33, 2004).  Contract for the crates above:
 //! `order_of` returns an order that meets all conditions, or a stuck set: labels none of which can be the last one of
 //! them. By the theorem `no_order_meets_stuck` there is no order then. `stuck_set` adds reasons that show it.
-//! `is_order` and `is_valid_stuck_set` check an order and a stuck set.
+//! `is_order` and `is_valid_stuck_set` check an order and a stuck set. A `Solver` says which labels of a set can be the
+//! last one of it.
 #![tactic(auto)]
 
 mod certificates;
@@ -14,12 +15,14 @@ mod open;
 mod ordering;
 mod placing;
 mod reasons;
+mod solver;
 mod subsets;
 pub mod theorems;
 mod uses;
 
 pub use certificates::is_valid_stuck_set;
 pub use checking::{is_before_by_position, is_order, positions_of};
-pub use condition::{Condition, name_only_below};
+pub use condition::{Condition, are_below, name_only_below};
 pub use ordering::{Solution, order_of};
 pub use reasons::{Held, StuckSet, stuck_set};
+pub use solver::Solver;

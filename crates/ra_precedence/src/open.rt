@@ -33,8 +33,16 @@ pub fn open_counts(
     Ok(numbers)
 }
 
-// Adds one for each of the labels.
-fn count_all(numbers: &mut Vec<u32>, labels: &[u32]) -> Result<(), NoMemory>
+/// Adds one for each of the labels.
+///
+/// # Errors
+///
+/// `NoMemory` if a number would be 2^32.
+///
+/// # Complexity
+///
+/// O(n), with `n` the number of the labels.
+pub fn count_all(numbers: &mut Vec<u32>, labels: &[u32]) -> Result<(), NoMemory>
     requires { (b : ℕ) → Contains labels.now b → b < length numbers.old.items }
     ensures len { length numbers.new.items ≡ length numbers.old.items }
     ensures each { OnOk result ((b : ℕ) → get_or numbers.new.items b 0

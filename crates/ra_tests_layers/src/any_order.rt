@@ -8,12 +8,12 @@ use std::alloc::Global;
 use std::process::Abort;
 use std::test::Fail;
 
-// What happens in a history.
+/// What happens in a history.
 #[derive(Drop)]
-enum Event {
-    // The replica performs the operation.
+pub enum Event {
+    /// The replica performs the operation.
     Does(u8, Op),
-    // The label is delivered to the replica.
+    /// The label is delivered to the replica.
     Got(u8, u32),
 }
 
@@ -25,13 +25,13 @@ enum Answer {
     Read(u32, Option<u32>),
 }
 
-// Returns the answer for the history, from a second call if an allocation fails in the first one.
-fn answer_to(
+/// Returns the visibility of the history, and its labels' operations.
+pub fn history<'a>(
     rt: &impl Abort,
     alloc: Global,
     replicas: u8,
-    events: &[Event],
-) -> Result<Answer, NoMemory> {
+    events: &'a [Event],
+) -> Result<(Tracker, Vec<&'a Op>), NoMemory> {
     let mut tracker = Tracker::new(alloc, replicas)?;
     let mut operations = Vec::new(alloc);
     for event in events {
@@ -48,6 +48,17 @@ fn answer_to(
             }
         }
     }
+    Ok((tracker, operations))
+}
+
+// Returns the answer for the history, from a second call if an allocation fails in the first one.
+fn answer_to(
+    rt: &impl Abort,
+    alloc: Global,
+    replicas: u8,
+    events: &[Event],
+) -> Result<Answer, NoMemory> {
+    let (tracker, operations) = history(rt, alloc, replicas, events)?;
     let answer = match some_order(alloc, &tracker, &operations) {
         Ok(answer) => answer,
         Err(_) => some_order(alloc, &tracker, &operations)?,

@@ -15,6 +15,8 @@ mod effects;
 #[cfg(test)]
 mod first_reads;
 #[cfg(test)]
+mod next_reads;
+#[cfg(test)]
 mod order;
 #[cfg(test)]
 mod order_costs;

@@ -2,8 +2,8 @@
 
 use ra_labels::NoMemory;
 use ra_precedence::{
-    Condition, Held, Solution, StuckSet, is_order, is_valid_stuck_set, name_only_below, order_of,
-    stuck_set,
+    Condition, Held, Solution, Solver, StuckSet, are_below, is_order, is_valid_stuck_set,
+    name_only_below, order_of, stuck_set,
 };
 use std::alloc::Global;
 use std::process::Abort;
@@ -58,6 +58,24 @@ fn is_valid(
     }
 }
 
+// Returns the labels of the set that can be the last one of it, from a second question if an allocation fails in the
+// first one.
+fn lasts_of(
+    rt: &impl Abort,
+    alloc: Global,
+    count: u32,
+    conditions: Vec<Condition>,
+    set: &[u32],
+) -> Result<Vec<u32>, NoMemory> {
+    assert!(rt; name_only_below(count, &conditions));
+    assert!(rt; are_below(count, set));
+    let mut solver = Solver::new(alloc, count, conditions)?;
+    match solver.last_of(alloc, set) {
+        Ok(lasts) => Ok(lasts),
+        Err(_) => solver.last_of(alloc, set),
+    }
+}
+
 // Returns the order, or the stuck set with `true`.
 fn labels_of(solution: Solution) -> (Vec<u32>, bool) {
     match solution {
@@ -88,6 +106,55 @@ fn a_choice_is_made(rt: HostRuntime) -> Result<(), Fail> {
     let (order, is_stuck) = labels_of(solved(&rt, alloc, 3, &conditions)?);
     assert!(rt; !is_stuck);
     assert_eq!(rt; order.as_slice(), [1, 0, 2].as_slice());
+    Ok(())
+}
+
+// Label 0 stands before 1 or 2, and 3 before 1. The labels are asked in another order, one of them twice.
+fn a_choice_and_an_edge(alloc: Global) -> Result<Vec<Condition>, NoMemory> {
+    let mut conditions = Vec::new(alloc);
+    conditions.push(condition(alloc, &[0], &[1, 2])?)?;
+    conditions.push(condition(alloc, &[3], &[1])?)?;
+    Ok(conditions)
+}
+
+#[test]
+fn some_labels_can_be_the_last(rt: HostRuntime) -> Result<(), Fail> {
+    let alloc = rt.alloc();
+    let lasts = lasts_of(
+        &rt,
+        alloc,
+        4,
+        a_choice_and_an_edge(alloc)?,
+        &[3, 2, 1, 0, 2],
+    )?;
+    assert_eq!(rt; lasts.as_slice(), [2, 1].as_slice());
+    Ok(())
+}
+
+// Label 0 need not stand before 1, as 2 can stand behind it.
+#[test]
+fn a_choice_lets_either_be_the_last(rt: HostRuntime) -> Result<(), Fail> {
+    let alloc = rt.alloc();
+    let lasts = lasts_of(&rt, alloc, 4, a_choice_and_an_edge(alloc)?, &[0, 1])?;
+    assert_eq!(rt; lasts.as_slice(), [0, 1].as_slice());
+    let lasts = lasts_of(&rt, alloc, 4, a_choice_and_an_edge(alloc)?, &[3, 1])?;
+    assert_eq!(rt; lasts.as_slice(), [1].as_slice());
+    Ok(())
+}
+
+// A solver answers several questions: what one of them holds back does not count in the next.
+#[test]
+fn a_solver_is_asked_again(rt: HostRuntime) -> Result<(), Fail> {
+    let alloc = rt.alloc();
+    let conditions = a_choice_and_an_edge(alloc)?;
+    assert!(rt; name_only_below(4, &conditions));
+    assert!(rt; are_below(4, &[0, 1, 2, 3]));
+    assert!(rt; are_below(4, &[0, 3]));
+    let mut solver = Solver::new(alloc, 4, conditions)?;
+    let first = solver.last_of(alloc, &[0, 1, 2, 3])?;
+    assert_eq!(rt; first.as_slice(), [1, 2].as_slice());
+    let second = solver.last_of(alloc, &[0, 3])?;
+    assert_eq!(rt; second.as_slice(), [0, 3].as_slice());
     Ok(())
 }
 
