@@ -273,6 +273,41 @@ def waiting(is_chain, count):
     return history
 
 
+def removed(count):
+    """a puts in so many elements, each behind the one before, takes them all out, and reads as often."""
+    history, numbers = History("rga"), range(1, count + 1)
+    for number in numbers:
+        history.does("a", f"after {number - 1} {number} @{number}")
+    for number in numbers:
+        history.does("a", f"remove {number}")
+    for _ in numbers:
+        history.does("a", f"read {listed([])}")
+    return history
+
+
+def far_apart(count):
+    """a puts in so many elements, takes out all but the first and the last one, and reads as often."""
+    history, numbers = History("rga"), range(1, count + 1)
+    for number in numbers:
+        history.does("a", f"after {number - 1} {number} @{number}")
+    for number in numbers[1:-1]:
+        history.does("a", f"remove {number}")
+    for _ in numbers:
+        history.does("a", f"read {listed([1, count])}")
+    return history
+
+
+def in_front(count):
+    """a puts in so many elements, each in front of all others. b and c have newer ones, and get them one by one."""
+    history, numbers = History("rga"), range(1, count + 1)
+    labels = [history.does("a", f"after 0 {number} @{number}") for number in numbers]
+    for newer, name in enumerate("bc", count + 1):
+        history.does(name, f"after 0 {newer} @{newer}")
+        history.gets(name, labels)
+        history.does(name, f"read {listed([newer, *numbers[::-1]])}")
+    return history
+
+
 class Typing:
     """Each element is put in behind the one before. Now and then one is taken out of sight."""
 
