@@ -274,7 +274,7 @@ def waiting(is_chain, count):
 
 
 def removed(count):
-    """a puts in so many elements, each behind the one before, takes them all out, and reads as often."""
+    """a inserts `count` elements, each behind the previous one, removes them all, and reads `count` times."""
     history, numbers = History("rga"), range(1, count + 1)
     for number in numbers:
         history.does("a", f"after {number - 1} {number} @{number}")
@@ -286,7 +286,7 @@ def removed(count):
 
 
 def far_apart(count):
-    """a puts in so many elements, takes out all but the first and the last one, and reads as often."""
+    """a inserts `count` elements, removes all but the first and the last one, and reads `count` times."""
     history, numbers = History("rga"), range(1, count + 1)
     for number in numbers:
         history.does("a", f"after {number - 1} {number} @{number}")
@@ -298,7 +298,7 @@ def far_apart(count):
 
 
 def in_front(count):
-    """a puts in so many elements, each in front of all others. b and c have newer ones, and get them one by one."""
+    """a inserts `count` elements, each before all others. b and c, which have newer ones, receive them so."""
     history, numbers = History("rga"), range(1, count + 1)
     labels = [history.does("a", f"after 0 {number} @{number}") for number in numbers]
     for newer, name in enumerate("bc", count + 1):

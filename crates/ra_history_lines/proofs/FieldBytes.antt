@@ -1,18 +1,16 @@
 -- Lemmas on reading a number and the fields behind it byte by byte.
-use Rattle.std.proofs.Common.{◌≡◌, ℕ, zero, suc, ◌+◌, ◌-◌, ◌*◌, ◌^◌, ◌<◌, ◌≤◌, ◌≢◌, inl, inr, true, false, eqb, ltb, List, [], ◌∷◌, Option, Some, None, length, get_or, take, drop}
+use Rattle.std.proofs.Common.{◌≡◌, ℕ, ◌-◌, ◌<◌, ◌≤◌, ◌≢◌, inl, inr, eqb, List, [], ◌∷◌, Option, Some, None, length, get_or, take, drop}
 use Rattle.std.proofs.Common.{refl, sym, ap, ◌∙◌, arith}
 use Rattle.std.proofs.Math.Seq.{take-length}
 use Rattle.std.specs.Prelude.{option_map, option_and_then}
 use Rattle.std.specs.List.{onto_first}
-use Rattle.std.specs.Char.{is_ascii_digit}
-use Rattle.std.proofs.lemmas.Bool.{cases_Bool, eq-eqb, ne_eqb, lt-ltb, ltb-true}
+use Rattle.std.proofs.lemmas.Bool.{cases_Bool, eq-eqb, ne_eqb}
 use Rattle.ra_labels.specs.declared.command.Command.TheVariants.{Deliver}
 use Rattle.ra_history_lines.specs.Grammar.{fields_of}
-use Rattle.ra_history_lines.specs.FieldBytes.{number_in_field, field_behind, only_number}
+use Rattle.ra_history_lines.specs.FieldBytes.{number_in_field, only_number}
 use Rattle.ra_history_lines.specs.ListBytes.{EndsNumber}
-use Rattle.ra_history_lines.specs.Reading.{Rest, next_digit_read, number_read, number_first, delivery_read, clock_last}
+use Rattle.ra_history_lines.specs.Reading.{Rest, next_digit_read, number_read, number_first, delivery_read}
 use Rattle.ra_history_lines.proofs.ListBytes.{on_value, number_with, number_of_piece}
-use Rattle.ra_history_lines.proofs.Numbers.{digit_in}
 use Rattle.ra_history_lines.proofs.Pieces.{some_piece}
 
 -- ---- the number of the first field
@@ -56,38 +54,6 @@ pub of_first : (bytes : List ℕ) → number_in_field None bytes ≡ number_firs
 of_first bytes = by_fields None bytes ∙ of_all_fields (fields_of bytes)
 
 -- ---- the digits of the number
-
-pub no_digit_first : (byte : ℕ) (bytes : List ℕ) → is_ascii_digit byte ≡ false
-    → number_in_field None (byte ∷ bytes) ≡ None
-no_digit_first byte bytes other =
-    elim (cases_Bool (eqb byte 32)) [ inl space ↦ rw space refl | inr another ↦ rw (another, other) refl ]
-
-pub digit_first : (byte : ℕ) (bytes : List ℕ) → is_ascii_digit byte ≡ true
-    → number_in_field None (byte ∷ bytes) ≡ field_behind (byte - 48) bytes
-digit_first byte bytes digit =
-    let range = digit_in byte digit in
-    let other = ne_eqb byte 32 (λ same. omega (arith, same, range)) in
-    let plain : 0 * 10 + (byte - 48) ≡ byte - 48 = omega arith in
-    let small = lt-ltb (byte - 48) (2 ^ 32) (omega (arith, range)) in
-    rw (other, digit, plain, small) refl
-
-pub digit_more : (n byte : ℕ) (bytes : List ℕ) → 0 < n → is_ascii_digit byte ≡ true
-    → field_behind n (byte ∷ bytes) ≡ field_behind (n * 10 + (byte - 48)) bytes
-digit_more zero byte bytes above digit = absurd (omega (arith, above))
-digit_more (suc n) byte bytes above digit =
-    let range = digit_in byte digit in
-    let other = ne_eqb byte 32 (λ same. omega (arith, same, range)) in
-    elim (cases_Bool (ltb (suc n * 10 + (byte - 48)) (2 ^ 32))) [
-      | inl fits ↦
-          let within = ltb-true (suc n * 10 + (byte - 48)) (2 ^ 32) fits in
-          let small = lt-ltb (suc n) (2 ^ 32) (omega (arith, within)) in
-          rw (small, other, digit, fits) refl
-      | inr large ↦
-          elim (cases_Bool (ltb (suc n) (2 ^ 32))) [
-            | inl small ↦ rw (small, other, digit, large) refl
-            | inr none ↦ rw (none, large) refl
-          ]
-    ]
 
 -- ---- what follows the number
 
@@ -162,38 +128,3 @@ pub delivery_only : (replica : ℕ) (fields : List (List ℕ))
 delivery_only replica [] = refl
 delivery_only replica (field ∷ []) = refl
 delivery_only replica (field ∷ another ∷ more) = refl
-
-pub clock_only : (fields : List (List ℕ)) → (fields ≡ [] → ⊥)
-    → clock_last (onto_first 64 fields) ≡ option_map (λ clock. Some clock) (only_number fields)
-clock_only [] some = absurd (some refl)
-clock_only (field ∷ []) some = refl
-clock_only (field ∷ another ∷ more) some = refl
-
-pub clock_in : (bytes : List ℕ) → 1 ≤ length bytes → get_or bytes 0 0 ≡ 64
-    → clock_last (fields_of bytes)
-    ≡ option_map (λ clock. Some clock) (only_number (fields_of (take (length bytes - 1) (drop 1 bytes))))
-clock_in [] some is = absurd (omega (arith, some))
-clock_in (byte ∷ bytes) some is = rw (is, rest_of byte bytes) (clock_only (fields_of bytes) (some_piece 32 bytes))
-
-two_fields : (fields : List (List ℕ)) → (fields ≡ [] → ⊥) → clock_last ([] ∷ fields) ≡ None
-two_fields [] some = absurd (some refl)
-two_fields (field ∷ fields) some = refl
-
-another_sign : (byte : ℕ) (fields : List (List ℕ)) → byte ≢ 64 → (fields ≡ [] → ⊥)
-    → clock_last (onto_first byte fields) ≡ None
-another_sign byte [] other some = absurd (some refl)
-another_sign byte (field ∷ []) other some = rw (ne_eqb byte 64 other) refl
-another_sign byte (field ∷ another ∷ more) other some = refl
-
--- what does not begin with the sign of a clock is none
-pub no_clock : (bytes : List ℕ) → 1 ≤ length bytes → get_or bytes 0 0 ≢ 64 → clock_last (fields_of bytes) ≡ None
-no_clock [] some other = absurd (omega (arith, some))
-no_clock (byte ∷ bytes) some other =
-    elim (cases_Bool (eqb byte 32)) [
-      | inl space ↦ rw space (two_fields (fields_of bytes) (some_piece 32 bytes))
-      | inr another ↦ rw another (another_sign byte (fields_of bytes) other (some_piece 32 bytes))
-    ]
-
-pub empty_clock : (bytes : List ℕ) → bytes ≡ [] → clock_last (fields_of bytes) ≡ None
-empty_clock [] is = refl
-empty_clock (byte ∷ bytes) is = absurd cc

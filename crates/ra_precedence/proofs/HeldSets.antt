@@ -5,7 +5,7 @@ use Rattle.std.proofs.lemmas.Bool.{false≢true, cases_Bool, cases_lt, cond-true
 use Rattle.std.proofs.Math.Seq.{get_or-append_seam}
 use Rattle.std.proofs.lemmas.List.{get_or_append_left}
 use Rattle.ra_labels.specs.Edges.{EachOnce, IsBefore}
-use Rattle.ra_labels.proofs.Members.{at_head, behind_head, none_there, kept-there}
+use Rattle.ra_labels.proofs.Members.{none_there, kept-there}
 use Rattle.ra_precedence.specs.Conditions.{Condition, no_condition, condition_at, NameOnlyBelow}
 use Rattle.ra_precedence.specs.Placing.{times, open_count, AreUses}
 use Rattle.ra_precedence.specs.Lasts.{holding}
@@ -60,16 +60,6 @@ before_rest (x ∷ front) rest a b once there is = elim is [
       absurd (omega (arith, twice, first, more, some, one_if-is a x here.0))
   | inr further ↦ before_rest front rest a b (once_behind x (front ++ rest) once) there further
 ]
-
-pub first_of_before : (xs : List ℕ) (a b : ℕ) → IsBefore xs a b → Contains xs a
-first_of_before [] a b is = absurd is
-first_of_before (x ∷ xs) a b (inl both) = at_head x xs a both.0
-first_of_before (x ∷ xs) a b (inr further) = behind_head x xs a (first_of_before xs a b further)
-
-pub second_of_before : (xs : List ℕ) (a b : ℕ) → IsBefore xs a b → Contains xs b
-second_of_before [] a b is = absurd is
-second_of_before (x ∷ xs) a b (inl both) = behind_head x xs b both.1
-second_of_before (x ∷ xs) a b (inr further) = behind_head x xs b (second_of_before xs a b further)
 
 pub rest_once : (front rest : List ℕ) → EachOnce (front ++ rest) → EachOnce rest
 rest_once [] rest once = once

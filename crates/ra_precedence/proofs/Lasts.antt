@@ -9,14 +9,14 @@ use Rattle.ra_labels.proofs.Members.{head_or_behind, at_head, behind_head, none_
 use Rattle.ra_precedence.specs.Conditions.{Condition, no_condition, condition_at, MeetsAll, HasEachBelow, NameOnlyBelow}
 use Rattle.ra_precedence.specs.Placing.{times, open_count, AllArePlaced}
 use Rattle.ra_precedence.specs.Lasts.{IsOrderFor, IsLastOf, AreLasts, AreOpenOnce, holding}
-use Rattle.ra_precedence.proofs.Times.{one_if, one_if-is, one_if-not, times_head, times_append, times_none, times-there, there-times, each_once, once_each}
+use Rattle.ra_precedence.proofs.Times.{one_if, one_if-is, one_if-not, times_head, times_append, times_none, times-there, there-times, each_once, once_each, behind_there}
 use Rattle.ra_precedence.proofs.OpenCounts.{open_some, open_zero}
 use Rattle.ra_precedence.proofs.ReadAt.{read_at}
 use Rattle.ra_precedence.proofs.Solutions.{placed_times, before_reverse, in_reverse, from_reverse, times_reverse}
 use Rattle.ra_precedence.proofs.Steps.{before_left, before_seam}
 use Rattle.ra_precedence.proofs.StuckSets.{none_last, once_behind, head_not_behind}
 use Rattle.ra_precedence.proofs.Using.{in_take}
-use Rattle.ra_precedence.proofs.HeldSets.{before_right, before_kept, times_kept, before_rest, second_of_before, rest_once, at_low, at_last, low_or_last, within_held, named_held, open_split}
+use Rattle.ra_precedence.proofs.HeldSets.{before_right, before_kept, times_kept, before_rest, rest_once, at_low, at_last, low_or_last, within_held, named_held, open_split}
 
 module _ (count : ℕ) (conditions : List Condition) (set numbers placed : List ℕ) (named : NameOnlyBelow count conditions)
     (below : (b : ℕ) → Contains set b → b < count) (once : EachOnce set) (len : length numbers ≡ count)
@@ -262,7 +262,7 @@ module _ (count : ℕ) (conditions : List Condition) (set numbers placed : List 
     further : (b c : ℕ) → Contains (w ∷ rest) b → IsBefore order b c → Contains rest c
     further b c there stands = elim (before_rest front (w ∷ rest) b c each.once there stands) [
       | inl both ↦ both.1
-      | inr later ↦ second_of_before rest b c later
+      | inr later ↦ behind_there rest b c later
     ]
 
     later_both : (b c : ℕ) → Contains rest b → IsBefore order b c → IsBefore rest b c

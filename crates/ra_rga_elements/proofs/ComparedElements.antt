@@ -2,7 +2,7 @@
 use Rattle.std.proofs.Common.{◌≡◌, ℕ, suc, ◌+◌, ◌<◌, ◌≤◌, Bool, true, false, List, [], ◌∷◌, ◌++◌, length, get_or, filter, refl, sym, ap, ◌∙◌, subst, inl, inr, arith, Option, Some, None}
 use Rattle.std.specs.Prelude.{Contains, IfSome}
 use Rattle.std.proofs.lemmas.Bool.{false≢true, cases_lt}
-use Rattle.std.proofs.lemmas.List.{length-append, append-nil, append_assoc, get_or_at, get_or-append-add}
+use Rattle.std.proofs.lemmas.List.{length-append, append_assoc, get_or_at, get_or-append-add}
 use Rattle.ra_rga_elements.specs.declared.element.Element.{Element}
 use Rattle.ra_rga_elements.specs.Entries.{entry_at, numbers_in}
 use Rattle.ra_rga_elements.specs.Chunk.{Chunk}
@@ -11,7 +11,7 @@ use Rattle.ra_rga_elements.specs.Groups.{element_at}
 use Rattle.ra_rga_elements.specs.ElementList.{ElementList, arrival_at, is_marked, marked_count, IsKeptByMark, IsIndexOf, IsBefore, IsMarkedBefore}
 use Rattle.ra_rga_elements.specs.Kept.{list_of, ElementListKept}
 use Rattle.ra_rga_elements.proofs.ElementPlaces.{index_in, in_numbers, index_of, one_index, one_number}
-use Rattle.ra_rga_elements.proofs.KeptElements.{IsTail, tail_none, tail_more, tail_whole, kept_at, kept_two}
+use Rattle.ra_rga_elements.proofs.KeptElements.{IsTail, tail_more, tail_whole, kept_at, kept_two}
 use Rattle.ra_rga_elements.proofs.MarkedNumbers.{numbers_once, elements_counted}
 use Rattle.ra_rga_elements.proofs.ElementOrder.{length_listed, length_arrived, name_is, listed_at}
 
@@ -39,17 +39,6 @@ pub record AreCompared (list : ElementList) (marks : List Bool) (listed left : L
   pub first : IsFirst list behind done
   pub tail : (keep : ℕ → Bool) → IsKeptByMark keep marks list.arrivals → IsTail keep list.elements done index
 
-pub none_compared : (list : ElementList) (marks : List Bool) (listed : List ℕ)
-    → AreCompared list marks listed listed None
-none_compared list marks listed = record {
-  done = [];
-  whole = sym (append-nil listed);
-  index = length list.elements;
-  at = refl;
-  first = refl;
-  tail = λ keep says. tail_none keep list.elements (length list.elements);
-}
-
 index_among : (list : ElementList) (behind : Option ℕ) (index : ℕ) → IsIndexOf list behind index
     → index ≤ length list.elements
 index_among list None index at = omega (arith, at)
@@ -64,10 +53,6 @@ known_number : (list : ElementList) (behind : Option ℕ) (index : ℕ) → IsIn
     → IfSome behind (λ n. n < length list.arrivals)
 known_number list None index at = tt
 known_number list (Some n) index at = at.0
-
-pub compared_known : {list : ElementList} {marks : List Bool} {listed left : List ℕ} {behind : Option ℕ}
-    → AreCompared list marks listed left behind → IfSome behind (λ n. n < length list.arrivals)
-compared_known {list = list} {behind = behind} compared = known_number list behind compared.index compared.at
 
 -- one more element is compared
 pub compared_more : {list : ElementList} {marks : List Bool} {listed left : List ℕ} {behind : Option ℕ}

@@ -3,7 +3,7 @@ use Rattle.std.proofs.Common.{◌≡◌, ℕ, zero, suc, ◌+◌, ◌-◌, ◌<�
 use Rattle.std.proofs.lemmas.Bool.{false≢true, cases_Bool, cond-true, cond-false}
 use Rattle.std.proofs.lemmas.List.{drop_more}
 
--- at least so many elements are kept from this index on, and exactly these if they are no more
+-- from this index on at least as many elements are kept as the list has, and exactly these if no more are
 pub record IsTail (keep : ℕ → Bool) (xs done : List ℕ) (i : ℕ) : Type 0 where
   pub few : length done ≤ length (filter keep (drop i xs))
   pub full : length done ≡ length (filter keep (drop i xs)) → done ≡ filter keep (drop i xs)

@@ -236,6 +236,7 @@ impl ElementList {
             → count ≡ marked_count marks.now
             → IsTrue result ↔ (listed.now ≡ filter keep self.now.elements) }
     {
+        // Exposes the invariant of the list to the proof. Does nothing at run time.
         let _ = &self.elements;
         if listed.len() != count {
             return false;

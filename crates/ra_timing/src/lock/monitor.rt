@@ -1,4 +1,6 @@
-//! Timed reports from several threads to a monitor: behind the lock, and behind a Mutex.
+//! Timed reports from several threads to a monitor: behind the lock, and behind a Mutex. The functions are those of
+//! `calls` for another journal: code that is generic in the journal and moves passes into threads cannot be checked
+//! (decision 0029).
 ghost use Rattle.std.specs.Prelude.{All, IfOk};
 ghost use Rattle.ra_ticket.specs.Passes.{IsPassOf};
 
