@@ -3,6 +3,7 @@ pub mod Links
 pub mod Nodes
 pub mod HiddenNodes
 pub mod PairKeys
+pub mod DistinctElements
 pub mod Walks
 pub mod Keys
 pub mod RisingLists

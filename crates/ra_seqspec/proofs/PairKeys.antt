@@ -69,9 +69,9 @@ taken_out_more x id ids pairs ordered =
     (ap (λ b. x == q.0 && b) (eqb-comm q.1 id) ∙ sym (pair_test (x, id) q))) pairs
 
 -- pairs behind another: the element is not smaller, and for equal elements the identifier is greater
-record Behind (p q : ℕ × ℕ) : Type 0 where
-  no_lower : p.0 ≤ q.0
-  higher : p.0 ≡ q.0 → p.1 < q.1
+pub record Behind (p q : ℕ × ℕ) : Type 0 where
+  pub no_lower : p.0 ≤ q.0
+  pub higher : p.0 ≡ q.0 → p.1 < q.1
 
 behind_by : (p q : ℕ × ℕ) (a b : Ordering) → MatchOrdering a (p.0 < q.0) (p.0 ≡ q.0) (q.0 < p.0)
     → MatchOrdering b (p.1 < q.1) (p.1 ≡ q.1) (q.1 < p.1) → ordering_then a b ≡ Less → Behind p q
@@ -84,7 +84,7 @@ behind_by p q Greater b first second less = absurd (cc less)
 behind : (p q : ℕ × ℕ) → pair_cmp p q ≡ Less → Behind p q
 behind p q less = behind_by p q (nat_cmp p.0 q.0) (nat_cmp p.1 q.1) (ranked p.0 q.0 _ refl) (ranked p.1 q.1 _ refl) less
 
-all_behind : (p : ℕ × ℕ) (qs : List (ℕ × ℕ)) → AllByRecursion (λ q. pair_cmp p q ≡ Less) qs
+pub all_behind : (p : ℕ × ℕ) (qs : List (ℕ × ℕ)) → AllByRecursion (λ q. pair_cmp p q ≡ Less) qs
     → AllByRecursion (Behind p) qs
 all_behind p [] all = all
 all_behind p (q ∷ qs) all = (behind p q all.0, all_behind p qs all.1)
@@ -231,11 +231,11 @@ distinct_same x pairs = sym (or-false (is_among x (distinct_elements pairs))) �
     ∙ or-false (is_among x (elements_of pairs))
 
 -- the listed elements are greater than the last one
-no_lower : (p : ℕ × ℕ) (qs : List (ℕ × ℕ)) → AllByRecursion (Behind p) qs → AllByRecursion (λ q. p.0 ≤ q.0) qs
+pub no_lower : (p : ℕ × ℕ) (qs : List (ℕ × ℕ)) → AllByRecursion (Behind p) qs → AllByRecursion (λ q. p.0 ≤ q.0) qs
 no_lower p [] all = all
 no_lower p (q ∷ qs) all = (all.0.no_lower, no_lower p qs all.1)
 
-above_last : (least : ℕ) (pairs : List (ℕ × ℕ)) → IsStrictlySortedBy pair_cmp pairs
+pub above_last : (least : ℕ) (pairs : List (ℕ × ℕ)) → IsStrictlySortedBy pair_cmp pairs
     → AllByRecursion (λ p. least ≤ p.0) pairs
     → list_all (λ y. nat_lt least y) (elements_behind (Some least) pairs) ≡ true
 unfolding IsStrictlySortedBy

@@ -1,5 +1,5 @@
 -- The identifiers and the elements of strictly increasing pairs.
-use Rattle.std.specs.Prelude.{ℕ, ◌==◌, List, [], ◌∷◌, Option, None, Some, if◌then◌else◌}
+use Rattle.std.specs.Prelude.{◌≡◌, ℕ, ◌==◌, nat_lt, Bool, true, List, [], ◌∷◌, filter, Option, None, Some, if◌then◌else◌}
 use Rattle.std.specs.Option.{option_eq}
 
 -- the identifiers of the leading pairs that have this element
@@ -17,3 +17,15 @@ elements_behind last (pair ∷ pairs) =
 
 abbrev pub distinct_elements : List (ℕ × ℕ) → List ℕ
 distinct_elements pairs = elements_behind None pairs
+
+abbrev pub is_above : Option ℕ → ℕ → Bool
+is_above None x = true
+is_above (Some last) x = nat_lt last x
+
+-- the elements of strictly increasing pairs that are greater than the last one
+abbrev pub elements_above : Option ℕ → List (ℕ × ℕ) → List ℕ
+elements_above last pairs = filter (is_above last) (distinct_elements pairs)
+
+-- holds if these further pairs have the elements of all pairs that are greater than the last one
+abbrev pub IsRestOf : List (ℕ × ℕ) → Option ℕ → List (ℕ × ℕ) → Type 0
+IsRestOf pairs last rest = elements_behind last rest ≡ elements_above last pairs

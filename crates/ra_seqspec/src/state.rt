@@ -187,9 +187,10 @@ impl State {
     ///
     /// # Complexity
     ///
-    /// O(1) for a counter or a register, and O(n) for a read of `n` elements or pairs, those that an RGA hides
-    /// included. O(log n + k) for the query of an element's `k` identifiers. O(log n) for the query of a list's update,
-    /// and quadratic for its reads: O(k² + n (k + log n)) for a read of `k` elements, O(k² + k log n) for a part.
+    /// O(1) for a counter or a register, and O(n) for a read of an LWW set or an RGA with `n` elements, those that an
+    /// RGA hides included. O(k log n) for a read of `k` elements of an OR-Set with `n` pairs, and O(log n + k) for the
+    /// query of an element's `k` identifiers. O(log n) for the query of a list's update, and quadratic for its reads:
+    /// O(k² + n (k + log n)) for a read of `k` elements, O(k² + k log n) for a part.
     pub fn admits(&self, query: &Query) -> bool
         // If the query has a list of a set's elements or of identifiers, the list is strictly increasing.
         requires { asks_rising query.now ≡ true }
