@@ -8,8 +8,8 @@
 //! loop that reports needs no proof. A `Trial` answers as a monitor does, and logs nothing.
 //!
 //! The data structures follow the definitions. A `Tracker` represents visibility (`ra_visibility`). The order of the
-//! kind has the position of each label (`order`). The witness decides whether the records still hold with a new label
-//! (`ra_witness`).
+//! kind says whether a label fits, and sorts all labels (`order`). The witness decides whether the records still hold
+//! with a new label (`ra_witness`).
 #![tactic(auto)]
 
 mod faults;

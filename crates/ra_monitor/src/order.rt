@@ -5,8 +5,9 @@ ghost use Rattle.ra_labels.specs.HistorySoFar.{empty_history};
 
 use ra_exec_order::ExecOrder;
 use ra_labels::{Kind, Label, NoMemory};
-use ra_time_order::TimeOrder;
-use ra_visibility::{NamedOrder, Place, Seen};
+use ra_time_order::TimeRanks;
+use ra_visibility::{NamedOrder, Seen};
+use ra_witness::LabelOrder;
 use std::alloc::Global;
 
 /// The named order of a kind.
@@ -15,7 +16,7 @@ pub enum Order {
     /// All other kinds: execution order.
     Execution(ExecOrder),
     /// Register, LWW set and RGA: timestamp order.
-    Time(TimeOrder),
+    Time(TimeRanks),
 }
 
 impl Order {
@@ -32,13 +33,13 @@ impl Order {
                 Ok(Order::Execution(ExecOrder::new()))
             }
             Kind::Register | Kind::LwwSet | Kind::Rga => {
-                Ok(Order::Time(TimeOrder::new(alloc, replicas)?))
+                Ok(Order::Time(TimeRanks::new(alloc, replicas)?))
             }
         }
     }
 }
 
-impl NamedOrder for Order {
+impl LabelOrder for Order {
     ghost use Rattle.ra_monitor.specs.Order.{listed_in, room_in, IsOrderOf, lists_named, keeps_joined, keeps_delivered};
 
     ghost listed = { λ order. listed_in order };
@@ -47,10 +48,10 @@ impl NamedOrder for Order {
 
     ghost stands_for = { λ order past. IsOrderOf order past };
 
-    fn place(&self, label: &Label, seen: &Seen<'_>) -> Place {
+    fn fits(&self, label: &Label, seen: &Seen<'_>) -> bool {
         match self {
-            Order::Execution(order) => order.place(label, seen),
-            Order::Time(order) => order.place(label, seen),
+            Order::Execution(order) => order.place(label, seen).fits,
+            Order::Time(order) => order.fits(label, seen),
         }
     }
 
@@ -62,17 +63,13 @@ impl NamedOrder for Order {
     }
 
     #[inline(always)]
-    fn put(&mut self, label: &Label, seen: &Seen<'_>, place: Place) {
+    fn put(&mut self, label: &Label, seen: &Seen<'_>) {
         match self {
-            Order::Execution(order) => order.put(label, seen, place),
-            Order::Time(order) => order.put(label, seen, place),
-        }
-    }
-
-    fn at(&self, position: usize) -> Option<u32> {
-        match self {
-            Order::Execution(order) => order.at(position),
-            Order::Time(order) => order.at(position),
+            Order::Execution(order) => {
+                let place = order.place(label, seen);
+                order.put(label, seen, place);
+            }
+            Order::Time(order) => order.put(label, seen),
         }
     }
 

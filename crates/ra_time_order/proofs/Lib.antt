@@ -4,10 +4,12 @@ pub mod RisingRanks
 pub mod Runs
 pub mod Halves
 pub mod FiledLabels
+pub mod SortedRanks
 pub mod Table
 pub mod SeenStamps
 pub mod Bounds
 pub mod Places
 pub mod NewLabels
+pub mod NextRanks
 pub mod Members
 pub mod TheoremIndex

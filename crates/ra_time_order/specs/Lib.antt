@@ -4,5 +4,6 @@ pub mod RunningMaxima
 pub mod Positions
 pub mod Chunk
 pub mod Sorted
+pub mod LabelRanks
 pub mod Standing
 pub mod NamedOrderTheorems

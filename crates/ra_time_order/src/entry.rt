@@ -1,7 +1,7 @@
 use ra_labels::Stamp;
 
 /// A label with its rank: 12 bytes.
-#[derive(Clone, Copy)]
+#[derive(Clone, Copy, PartialEq, Eq, PartialOrd, Ord)]
 pub struct Entry {
     /// Its timestamp.
     pub rank: Stamp,

@@ -5,16 +5,20 @@
 //! what the label sees, the order stores running maxima. For each replica and each `n`, they have the greatest own
 //! stamp among the replica's first `n` updates. The module `theorems` states which kinds stand in this order.
 //!
-//! The labels stand in runs with room for 256, so that a late label moves few others.
+//! In a `TimeOrder` the labels stand in runs with room for 256, so that a late label moves few others. A `TimeRanks`
+//! represents the same histories, but keeps no positions: it says whether the next label fits, and sorts when asked.
 #![tactic(auto)]
 
 mod chunk;
 mod entry;
+mod label_ranks;
 mod run;
 mod running_maxima;
 mod running_maximum;
 mod sorted;
 pub mod theorems;
 mod time_order;
+mod time_ranks;
 
 pub use time_order::TimeOrder;
+pub use time_ranks::TimeRanks;

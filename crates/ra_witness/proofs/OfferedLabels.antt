@@ -2,12 +2,10 @@
 use Rattle.std.proofs.Common.{◌≡◌, ℕ, ◌<◌, Bool, true, false, cond, List, ◌∷◌, length, Option, Some, None, Result, Ok, Err, refl, sym, ap, ◌∙◌, subst, arith}
 use Rattle.std.specs.Prelude.{◌&&◌, ◌||◌, not, is_some, option_map, IfOk, OnErr, MatchResult}
 use Rattle.std.specs.Option.{option_or, option_to_list}
-use Rattle.std.specs.Global as global
 use Rattle.std.proofs.lemmas.List.{length-map}
 use Rattle.std.proofs.lemmas.List.Sorted.{length_permutation}
 use Rattle.ra_labels.specs.declared.kind.Kind.{Kind}
 use Rattle.ra_labels.specs.declared.kind.Kind.TheVariants as kinds
-use Rattle.ra_labels.specs.declared.edge.Edge.{Edge}
 use Rattle.ra_labels.specs.declared.operation.Op.{Op}
 use Rattle.ra_labels.specs.declared.label.Label.{Label}
 use Rattle.ra_labels.specs.declared.command.Command.{Command}
@@ -32,19 +30,11 @@ use Rattle.ra_visibility.specs.declared.limits.TheConstants.{MOST_LABELS}
 use Rattle.ra_visibility.specs.Seen.{Seen}
 use Rattle.ra_visibility.specs.Order.{IsPlaceOf, numbers_in, ComesNext}
 use Rattle.ra_visibility.proofs.TheoremIndex.{extends_visibility_iff_label_fits}
-use Rattle.ra_witness.specs.declared.failure.Failure.{Failure}
 use Rattle.ra_witness.specs.declared.witness.Witness.{Witness}
-use Rattle.ra_witness.specs.Failure.{IsCycleIn, ShowsCycle}
 use Rattle.ra_witness.specs.Labels.{updates_in, head_of, update_in}
 use Rattle.ra_witness.specs.Offered.{IsOffered, IsDelivered, IsJoinedFrom}
 use Rattle.ra_witness.specs.Effects.{AreEffectsOf}
 use Rattle.ra_witness.specs.Witness.{IsWitnessOf, MayOffer}
-
-pub from_not : (b c : Bool) → not b ≡ not c → b ≡ c
-from_not true true e = refl
-from_not true false e = sym e
-from_not false true e = sym e
-from_not false false e = refl
 
 -- with a new label, the records extend visibility exactly if it fits
 extends_where : (kind : Kind) (records : Records) (next : NextOperation) (place : Place) (fits : Bool)

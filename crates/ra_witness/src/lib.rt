@@ -25,6 +25,7 @@ mod commuting;
 mod effects;
 mod failure;
 mod kept_list;
+mod label_order;
 mod overriding;
 mod part_ref;
 mod queries;
@@ -35,5 +36,6 @@ pub mod theorems;
 mod witness;
 
 pub use failure::Failure;
+pub use label_order::LabelOrder;
 pub use part_ref::{Half, PartRef};
 pub use witness::Witness;

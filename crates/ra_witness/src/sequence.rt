@@ -7,9 +7,9 @@ ghost use Rattle.ra_witness.specs.Effects.{AreEffectsOf};
 ghost use Rattle.ra_witness.specs.Sequence.{refs_at};
 
 use crate::effects::Effects;
+use crate::label_order::LabelOrder;
 use crate::part_ref::{Half, PartRef};
 use ra_labels::NoMemory;
-use ra_visibility::NamedOrder;
 use std::alloc::Global;
 
 /// Returns the parts of the labels of an order, in this order. The effects tell which of them have two halves.
@@ -20,8 +20,8 @@ use std::alloc::Global;
 ///
 /// # Complexity
 ///
-/// O(n) and one call of `NamedOrder::numbers`, where `n` is the number of labels.
-pub fn part_refs<O: NamedOrder>(
+/// O(n) and one call of `LabelOrder::numbers`, where `n` is the number of labels.
+pub fn part_refs<O: LabelOrder>(
     alloc: Global,
     order: &O,
     kept: &Effects,

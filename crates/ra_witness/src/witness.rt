@@ -21,22 +21,23 @@ ghost use Rattle.ra_visibility.specs.Order.{ComesNext};
 
 use crate::effects::Effects;
 use crate::failure::Failure;
+use crate::label_order::LabelOrder;
 use crate::part_ref::PartRef;
 use crate::sequence::part_refs;
 use ra_labels::{Cause, Kind, Label, NoMemory};
 use ra_rewrite::parts;
-use ra_visibility::{NamedOrder, Seen};
+use ra_visibility::Seen;
 use std::alloc::Global;
 
 /// The labels in the named order of their kind, and the state of each replica after the updates delivered to it.
 #[derive(Drop)]
-pub struct Witness<O: NamedOrder> {
+pub struct Witness<O: LabelOrder> {
     order: O,
     kept: Effects,
     steps: u64,
 }
 
-impl<O: NamedOrder> Witness<O> {
+impl<O: LabelOrder> Witness<O> {
     /// Creates the witness of no labels, with the given number of replicas. The order has to be that of the empty
     /// history.
     ///
@@ -73,7 +74,7 @@ impl<O: NamedOrder> Witness<O> {
     ///
     /// # Complexity
     ///
-    /// One `place` and one `put` of the order; for a query one `State::admits`, for an update one `State::apply`. An
+    /// One `fits` and one `put` of the order; for a query one `State::admits`, for an update one `State::apply`. An
     /// RGA's insertion is inserted into the list of all elements besides. A replica's array by element number
     /// (`LastUpdates`, or the marks of an RGA) is extended if necessary. For a list that of `ListEffects::test` and
     /// `ListEffects::add`; for any type and a multi-value register that of `Unordered::add`.
@@ -116,8 +117,7 @@ impl<O: NamedOrder> Witness<O> {
             → (more : ℕ) × SettlesMore past.records (operate next) next.by more
             × (self.new.steps ≡ min (self.old.steps + more) 18446744073709551615) }
     {
-        let place = self.order.place(label, seen);
-        if !place.fits {
+        if !self.order.fits(label, seen) {
             return Ok(Some(Failure::of(Cause::Order)));
         }
         let parts = parts(label)?;
@@ -130,7 +130,7 @@ impl<O: NamedOrder> Witness<O> {
             Ok(steps) => steps,
             Err(failure) => return Ok(Some(failure)),
         };
-        self.order.put(label, seen, place);
+        self.order.put(label, seen);
         self.steps = self.steps.saturating_add(steps);
         Ok(None)
     }
@@ -250,7 +250,7 @@ impl<O: NamedOrder> Witness<O> {
     ///
     /// # Complexity
     ///
-    /// O(n) and one call of `NamedOrder::numbers`, where `n` is the number of labels.
+    /// O(n) and one call of `LabelOrder::numbers`, where `n` is the number of labels.
     pub fn sequence(&self) -> Result<Vec<PartRef>, NoMemory>
         // If the call succeeds, the result is the named sequence of the labels: all their parts, in the named order.
         ensures { (past : History) → IsWitnessOf O.stands_for self.now past

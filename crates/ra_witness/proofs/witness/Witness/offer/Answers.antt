@@ -1,37 +1,39 @@
 use Rattle.std.proofs.Common.{◌∷◌, true, false, true≢false, Some, refl, sym, ap, ◌∙◌, subst, arith}
 use Rattle.std.specs.Result.{result_err}
 use Rattle.ra_witness.specs.States.{steps_of}
-use Rattle.ra_witness.proofs.OfferedLabels.{cause_in_sequence, cause_of_kind, from_not, is_offered, comes_offered, order_fails, listed_count, update_known, all_admitted, same_op, taken, kept_same, in_ok, in_ok_part, in_err, in_err_part, fits_in_a_list, not_for_order}
+use Rattle.ra_witness.proofs.OfferedLabels.{cause_in_sequence, cause_of_kind, is_offered, comes_offered, order_fails, listed_count, update_known, all_admitted, same_op, taken, kept_same, in_ok, in_ok_part, in_err, in_err_part, fits_in_a_list, not_for_order}
 use Rattle.ra_witness.proofs.Failures.{shown_by_none}
 use Rattle.ra_witness.proofs.witness.Witness.offer.Goals as goal
 use Rattle.ra_labels.specs.HistorySoFar.{operate}
 use Rattle.ra_witness.specs.Effects.{AreEffectsOf, IsFoundIn}
 
-pub returns-then-not-place-clause-cause : goal.returns-then-not-place-clause-cause
-returns-then-not-place-clause-cause g c = λ past next stands comes.
+pub returns-then-not-fits-clause-cause : goal.returns-then-not-fits-clause-cause
+returns-then-not-fits-clause-cause g c = λ past next stands comes.
+    let its = c.fits.ensures past next stands.order comes in
     ap Some c.of.ensures.cause
-    ∙ order_fails past.kind past.records next c.place-place.result stands.none (c.place-place.ensures past next stands.order comes)
-    (from_not c.place-place.result.fits false c.if-not-place.true)
+    ∙ order_fails past.kind past.records next its.0 stands.none its.1
+    (its.2 ∙ c.if-not-fits.true)
 
 pub admit-requires : goal.admit-requires
 admit-requires g c =
     let may = c.requires in
-    let is = c.place-place.ensures may.past may.next may.stands.order may.comes in
+    let its = c.fits.ensures may.past may.next may.stands.order may.comes in
     record {
       past = may.past;
       next = may.next;
       stands = may.stands.kept;
-      offered = is_offered g.O.NamedOrder.stands_for c.args.self.now may.past may.next c.args.label.now c.args.seen.now c.place-place.result may.stands may.comes is
-          (from_not c.place-place.result.fits true c.if-not-place.false) may.few;
+      offered = is_offered g.O.LabelOrder.stands_for c.args.self.now may.past may.next c.args.label.now c.args.seen.now its.0 may.stands may.comes its.1
+          (its.2 ∙ c.if-not-fits.false) may.few;
       acts_are = c.in_ok-parts.ensures.acts ∙ same_op c.args.label.now may.past.records may.next may.comes.becomes;
     }
 
 pub returns-in-Err-clause-cause : goal.returns-in-Err-clause-cause
 returns-in-Err-clause-cause g c = λ past next stands comes.
-    let lists = (g.met.O.NamedOrder g.world.𝓛 g.world.𝓜 g.world.𝓡 ((λ s x. x), (λ x. x), (λ x. x), λ x. x)).lists in
-    let offered = comes_offered g.O.NamedOrder.stands_for g.O.NamedOrder.listed lists c.args.self.now c.args.label.now
-    c.args.seen.now c.place-place.result c.requires past next stands comes
-    (c.place-place.ensures past next stands.order comes) (from_not c.place-place.result.fits true c.if-not-place.false) in
+    let lists = (g.met.O.LabelOrder g.world.𝓛 g.world.𝓜 g.world.𝓡 ((λ s x. x), (λ x. x), (λ x. x), λ x. x)).lists in
+    let its = c.fits.ensures past next stands.order comes in
+    let offered = comes_offered g.O.LabelOrder.stands_for g.O.LabelOrder.listed lists c.args.self.now c.args.label.now
+    c.args.seen.now its.0 c.requires past next stands comes its.1
+    (its.2 ∙ c.if-not-fits.false) in
     ap Some c.of-in-Err.ensures.cause
     ∙ cause_in_sequence past.kind (operate next ∷ past.records) c.in-Err.cause
     (ap result_err (sym c.in-Err.is) ∙ c.in_ok-admitted.ensures.cause past next stands.kept offered
@@ -40,16 +42,16 @@ returns-in-Err-clause-cause g c = λ past next stands comes.
 -- the same effects are kept after the test
 pub returns-in-Err-clause-same : goal.returns-in-Err-clause-same
 returns-in-Err-clause-same g c = λ past stands failed.
-    kept_same g.O.NamedOrder.stands_for c.args.self.now _ past stands stands.order
+    kept_same g.O.LabelOrder.stands_for c.args.self.now _ past stands stands.order
     (subst (λ k. AreEffectsOf k past) (sym c.admit.ensures.same) stands.kept)
 
 pub add-requires-clause-may : goal.add-requires-clause-may
 add-requires-clause-may g c =
     let may = c.requires in
-    let is = c.place-place.ensures may.past may.next may.stands.order may.comes in
+    let its = c.fits.ensures may.past may.next may.stands.order may.comes in
     let acts = c.in_ok-parts.ensures.acts ∙ same_op c.args.label.now may.past.records may.next may.comes.becomes in
-    let offered = is_offered g.O.NamedOrder.stands_for c.args.self.now may.past may.next c.args.label.now c.args.seen.now c.place-place.result may.stands may.comes is
-    (from_not c.place-place.result.fits true c.if-not-place.false) may.few in
+    let offered = is_offered g.O.LabelOrder.stands_for c.args.self.now may.past may.next c.args.label.now c.args.seen.now its.0 may.stands may.comes its.1
+    (its.2 ∙ c.if-not-fits.false) may.few in
     record {
       past = may.past;
       next = may.next;
@@ -70,16 +72,17 @@ pub put-requires-clause-few : goal.put-requires-clause-few
 put-requires-clause-few g c =
     let may = c.requires in
     let order = c.spare.new.self in
-    let known = listed_count may.past.kind may.past.records (g.O.NamedOrder.listed order)
-    ((g.met.O.NamedOrder g.world.𝓛 g.world.𝓜 g.world.𝓡 ((λ s x. x), (λ x. x), (λ x. x), λ x. x)).lists order may.past (c.in_ok-spare.ensures.stands may.past may.stands.order)) in
+    let known = listed_count may.past.kind may.past.records (g.O.LabelOrder.listed order)
+    ((g.met.O.LabelOrder g.world.𝓛 g.world.𝓜 g.world.𝓡 ((λ s x. x), (λ x. x), (λ x. x), λ x. x)).lists order may.past (c.in_ok-spare.ensures.stands may.past may.stands.order)) in
     omega (arith, may.few, known)
 
 pub returns-clause-cause : goal.returns-clause-cause
 returns-clause-cause g c = λ past next stands comes.
-    let lists = (g.met.O.NamedOrder g.world.𝓛 g.world.𝓜 g.world.𝓡 ((λ s x. x), (λ x. x), (λ x. x), λ x. x)).lists in
-    let offered = comes_offered g.O.NamedOrder.stands_for g.O.NamedOrder.listed lists c.args.self.now c.args.label.now
-    c.args.seen.now c.place-place.result c.requires past next stands comes
-    (c.place-place.ensures past next stands.order comes) (from_not c.place-place.result.fits true c.if-not-place.false) in
+    let lists = (g.met.O.LabelOrder g.world.𝓛 g.world.𝓜 g.world.𝓡 ((λ s x. x), (λ x. x), (λ x. x), λ x. x)).lists in
+    let its = c.fits.ensures past next stands.order comes in
+    let offered = comes_offered g.O.LabelOrder.stands_for g.O.LabelOrder.listed lists c.args.self.now c.args.label.now
+    c.args.seen.now its.0 c.requires past next stands comes its.1
+    (its.2 ∙ c.if-not-fits.false) in
     let acts = c.in_ok-parts.ensures.acts ∙ same_op c.args.label.now past.records next comes.becomes in
     let update = update_known c.in-Ok.admitted.update _ next.op
     (rw c.in-Ok.is at c.in_ok-admitted.ensures.update) acts in
@@ -91,10 +94,11 @@ returns-clause-cause g c = λ past next stands comes.
 
 pub returns-in-Err-2-clause-cause : goal.returns-in-Err-2-clause-cause
 returns-in-Err-2-clause-cause g c = λ past next stands comes.
-    let lists = (g.met.O.NamedOrder g.world.𝓛 g.world.𝓜 g.world.𝓡 ((λ s x. x), (λ x. x), (λ x. x), λ x. x)).lists in
-    let offered = comes_offered g.O.NamedOrder.stands_for g.O.NamedOrder.listed lists c.args.self.now c.args.label.now
-    c.args.seen.now c.place-place.result c.requires past next stands comes
-    (c.place-place.ensures past next stands.order comes) (from_not c.place-place.result.fits true c.if-not-place.false) in
+    let lists = (g.met.O.LabelOrder g.world.𝓛 g.world.𝓜 g.world.𝓡 ((λ s x. x), (λ x. x), (λ x. x), λ x. x)).lists in
+    let its = c.fits.ensures past next stands.order comes in
+    let offered = comes_offered g.O.LabelOrder.stands_for g.O.LabelOrder.listed lists c.args.self.now c.args.label.now
+    c.args.seen.now its.0 c.requires past next stands comes its.1
+    (its.2 ∙ c.if-not-fits.false) in
     let acts = c.in_ok-parts.ensures.acts ∙ same_op c.args.label.now past.records next comes.becomes in
     let update = update_known c.in-Ok.admitted.update _ next.op
     (rw c.in-Ok.is at c.in_ok-admitted.ensures.update) acts in
@@ -107,10 +111,11 @@ returns-in-Err-2-clause-cause g c = λ past next stands comes.
 
 pub returns-clause-taken : goal.returns-clause-taken
 returns-clause-taken g c = λ past next stands comes same.
-    let lists = (g.met.O.NamedOrder g.world.𝓛 g.world.𝓜 g.world.𝓡 ((λ s x. x), (λ x. x), (λ x. x), λ x. x)).lists in
-    let offered = comes_offered g.O.NamedOrder.stands_for g.O.NamedOrder.listed lists c.args.self.now c.args.label.now
-    c.args.seen.now c.place-place.result c.requires past next stands comes
-    (c.place-place.ensures past next stands.order comes) (from_not c.place-place.result.fits true c.if-not-place.false) in
+    let lists = (g.met.O.LabelOrder g.world.𝓛 g.world.𝓜 g.world.𝓡 ((λ s x. x), (λ x. x), (λ x. x), λ x. x)).lists in
+    let its = c.fits.ensures past next stands.order comes in
+    let offered = comes_offered g.O.LabelOrder.stands_for g.O.LabelOrder.listed lists c.args.self.now c.args.label.now
+    c.args.seen.now its.0 c.requires past next stands comes its.1
+    (its.2 ∙ c.if-not-fits.false) in
     let acts = c.in_ok-parts.ensures.acts ∙ same_op c.args.label.now past.records next comes.becomes in
     let update = update_known c.in-Ok.admitted.update _ next.op
     (rw c.in-Ok.is at c.in_ok-admitted.ensures.update) acts in
@@ -118,10 +123,9 @@ returns-clause-taken g c = λ past next stands comes same.
     let because = ap result_err (sym c.in-Ok.is) ∙ c.in_ok-admitted.ensures.cause past next stands.kept offered acts in
     let after = in_ok _ _ c.in_ok-steps.field-0 c.in-Ok-2.steps c.in-Ok-2.is
     (c.in_ok-steps.ensures.taken past next kept offered comes (sym because) update) in
-    taken g.O.NamedOrder.stands_for c.args.self.now _ past next c.args.label.now c.args.seen.now stands comes
+    taken g.O.LabelOrder.stands_for c.args.self.now _ past next c.args.label.now c.args.seen.now stands comes
     (cause_of_kind past.kind (operate next ∷ past.records) true because after.1)
-    (c.put.ensures.stands past next (c.in_ok-spare.ensures.stands past stands.order) comes
-    (c.place-place.ensures past next stands.order comes)) after.0
+    (c.put.ensures past next (c.in_ok-spare.ensures.stands past stands.order) comes) after.0
 
 pub returns-clause-counted : goal.returns-clause-counted
 returns-clause-counted g c = λ past next stands comes other same few.
@@ -136,10 +140,11 @@ returns-clause-counted g c = λ past next stands comes other same few.
 
 pub returns-clause-settled : goal.returns-clause-settled
 returns-clause-settled g c = λ past next stands comes rga same.
-    let lists = (g.met.O.NamedOrder g.world.𝓛 g.world.𝓜 g.world.𝓡 ((λ s x. x), (λ x. x), (λ x. x), λ x. x)).lists in
-    let offered = comes_offered g.O.NamedOrder.stands_for g.O.NamedOrder.listed lists c.args.self.now c.args.label.now
-    c.args.seen.now c.place-place.result c.requires past next stands comes
-    (c.place-place.ensures past next stands.order comes) (from_not c.place-place.result.fits true c.if-not-place.false) in
+    let lists = (g.met.O.LabelOrder g.world.𝓛 g.world.𝓜 g.world.𝓡 ((λ s x. x), (λ x. x), (λ x. x), λ x. x)).lists in
+    let its = c.fits.ensures past next stands.order comes in
+    let offered = comes_offered g.O.LabelOrder.stands_for g.O.LabelOrder.listed lists c.args.self.now c.args.label.now
+    c.args.seen.now its.0 c.requires past next stands comes its.1
+    (its.2 ∙ c.if-not-fits.false) in
     let acts = c.in_ok-parts.ensures.acts ∙ same_op c.args.label.now past.records next comes.becomes in
     let kept = subst (λ k. AreEffectsOf k past) (sym c.admit.ensures.same) stands.kept in
     let because = ap result_err (sym c.in-Ok.is) ∙ c.in_ok-admitted.ensures.cause past next stands.kept offered acts in (
@@ -151,24 +156,24 @@ returns-clause-settled g c = λ past next stands comes rga same.
 
 pub returns-in_err-spare-clause-same : goal.returns-in_err-spare-clause-same
 returns-in_err-spare-clause-same g c = λ past stands failed.
-    kept_same g.O.NamedOrder.stands_for c.args.self.now _ past stands (c.spare.ensures.stands past stands.order)
+    kept_same g.O.LabelOrder.stands_for c.args.self.now _ past stands (c.spare.ensures.stands past stands.order)
     (subst (λ k. AreEffectsOf k past) (sym c.admit.ensures.same) stands.kept)
 
 pub returns-in_err-admitted-clause-same : goal.returns-in_err-admitted-clause-same
 returns-in_err-admitted-clause-same g c = λ past stands failed.
-    kept_same g.O.NamedOrder.stands_for c.args.self.now _ past stands stands.order
+    kept_same g.O.LabelOrder.stands_for c.args.self.now _ past stands stands.order
     (subst (λ k. AreEffectsOf k past) (sym c.admit.ensures.same) stands.kept)
 
 pub returns-in_err-steps-clause-same : goal.returns-in_err-steps-clause-same
 returns-in_err-steps-clause-same g c = λ past stands failed.
     let kept = subst (λ k. AreEffectsOf k past) (sym c.admit.ensures.same) stands.kept in
-    kept_same g.O.NamedOrder.stands_for c.args.self.now _ past stands (c.in_ok-spare.ensures.stands past stands.order)
+    kept_same g.O.LabelOrder.stands_for c.args.self.now _ past stands (c.in_ok-spare.ensures.stands past stands.order)
     (c.in_err-steps.ensures.same past kept)
 
 pub returns-in-Err-2-clause-same : goal.returns-in-Err-2-clause-same
 returns-in-Err-2-clause-same g c = λ past stands failed.
     let kept = subst (λ k. AreEffectsOf k past) (sym c.admit.ensures.same) stands.kept in
-    kept_same g.O.NamedOrder.stands_for c.args.self.now _ past stands (c.in_ok-spare.ensures.stands past stands.order)
+    kept_same g.O.LabelOrder.stands_for c.args.self.now _ past stands (c.in_ok-spare.ensures.stands past stands.order)
     (in_err_part c.in_ok-steps.field-0 _ c.in-Err-2.failure c.in-Err-2.is (c.in_ok-steps.ensures.unchanged past kept))
 
 pub returns-clause-same : goal.returns-clause-same
@@ -188,20 +193,21 @@ returns-clause-one_step g c =
     let one = in_ok_part c.in_ok-steps.field-0 _ c.in-Ok-2.steps c.in-Ok-2.is c.in_ok-steps.ensures.step in
     omega (arith, one, c.saturating_add-self.ensures)
 
-pub returns-then-not-place-clause-cycle : goal.returns-then-not-place-clause-cycle
-returns-then-not-place-clause-cycle g c = λ past next stands comes.
+pub returns-then-not-fits-clause-cycle : goal.returns-then-not-fits-clause-cycle
+returns-then-not-fits-clause-cycle g c = λ past next stands comes.
+    let its = c.fits.ensures past next stands.order comes in
     shown_by_none past.kind (operate next ∷ past.records) c.of.result c.of.ensures.cycle
     (λ list order. true≢false
-    (sym (fits_in_a_list past.kind past.records next c.place-place.result stands.none
-    (c.place-place.ensures past next stands.order comes) list)
-    ∙ from_not c.place-place.result.fits false c.if-not-place.true))
+    (sym (fits_in_a_list past.kind past.records next its.0 stands.none its.1 list)
+    ∙ its.2 ∙ c.if-not-fits.true))
 
 pub returns-in-Err-clause-cycle : goal.returns-in-Err-clause-cycle
 returns-in-Err-clause-cycle g c = λ past next stands comes.
-    let lists = (g.met.O.NamedOrder g.world.𝓛 g.world.𝓜 g.world.𝓡 ((λ s x. x), (λ x. x), (λ x. x), λ x. x)).lists in
-    let offered = comes_offered g.O.NamedOrder.stands_for g.O.NamedOrder.listed lists c.args.self.now c.args.label.now
-    c.args.seen.now c.place-place.result c.requires past next stands comes
-    (c.place-place.ensures past next stands.order comes) (from_not c.place-place.result.fits true c.if-not-place.false) in
+    let lists = (g.met.O.LabelOrder g.world.𝓛 g.world.𝓜 g.world.𝓡 ((λ s x. x), (λ x. x), (λ x. x), λ x. x)).lists in
+    let its = c.fits.ensures past next stands.order comes in
+    let offered = comes_offered g.O.LabelOrder.stands_for g.O.LabelOrder.listed lists c.args.self.now c.args.label.now
+    c.args.seen.now its.0 c.requires past next stands comes its.1
+    (its.2 ∙ c.if-not-fits.false) in
     let because = ap result_err (sym c.in-Err.is) ∙ c.in_ok-admitted.ensures.cause past next stands.kept offered
     (c.in_ok-parts.ensures.acts ∙ same_op c.args.label.now past.records next comes.becomes) in
     shown_by_none past.kind (operate next ∷ past.records) c.of-in-Err.result c.of-in-Err.ensures.cycle
@@ -210,10 +216,11 @@ returns-in-Err-clause-cycle g c = λ past next stands comes.
 
 pub returns-in-Err-2-clause-cycle : goal.returns-in-Err-2-clause-cycle
 returns-in-Err-2-clause-cycle g c = λ past next stands comes.
-    let lists = (g.met.O.NamedOrder g.world.𝓛 g.world.𝓜 g.world.𝓡 ((λ s x. x), (λ x. x), (λ x. x), λ x. x)).lists in
-    let offered = comes_offered g.O.NamedOrder.stands_for g.O.NamedOrder.listed lists c.args.self.now c.args.label.now
-    c.args.seen.now c.place-place.result c.requires past next stands comes
-    (c.place-place.ensures past next stands.order comes) (from_not c.place-place.result.fits true c.if-not-place.false) in
+    let lists = (g.met.O.LabelOrder g.world.𝓛 g.world.𝓜 g.world.𝓡 ((λ s x. x), (λ x. x), (λ x. x), λ x. x)).lists in
+    let its = c.fits.ensures past next stands.order comes in
+    let offered = comes_offered g.O.LabelOrder.stands_for g.O.LabelOrder.listed lists c.args.self.now c.args.label.now
+    c.args.seen.now its.0 c.requires past next stands comes its.1
+    (its.2 ∙ c.if-not-fits.false) in
     let acts = c.in_ok-parts.ensures.acts ∙ same_op c.args.label.now past.records next comes.becomes in
     let update = update_known c.in-Ok.admitted.update _ next.op
     (rw c.in-Ok.is at c.in_ok-admitted.ensures.update) acts in

@@ -1,7 +1,7 @@
 use Rattle.std.proofs.Common.{subst}
 use Rattle.ra_monitor.specs.declared.order.Order.{Order}
 use Rattle.ra_monitor.specs.Order.{IsOrderOf}
-use Rattle.ra_monitor.proofs.order.OrderNamedOrder.spare.Goals as goal
+use Rattle.ra_monitor.proofs.order.OrderLabelOrder.spare.Goals as goal
 
 pub returns-in-Time-clause-stands : goal.returns-in-Time-clause-stands
 returns-in-Time-clause-stands c = λ past stands.
