@@ -10,13 +10,13 @@ use Rattle.ra_labels.specs.Records.{Records, label_count, labels_of, label_at}
 use Rattle.ra_labels.specs.Places.{issuer_of}
 use Rattle.ra_labels.proofs.Members.{none_there, at_head, reached}
 use Rattle.ra_theorems.specs.AnyOrder.{NoneLinearizes}
-use Rattle.ra_theorems.proofs.TheoremIndex.{label_at_each_number-there, label_at_each_number-found, delivered_are_updates-there}
+use Rattle.ra_theorems.proofs.TheoremIndex.{linearization_by_visibility, label_at_each_number-there, label_at_each_number-found, delivered_are_updates-there}
 use Rattle.ra_precedence.specs.Conditions.{Condition, MeetsAll, IsStuck, HasEachBelow}
 use Rattle.ra_precedence.proofs.TheoremIndex.{no_order_meets_stuck}
 use Rattle.ra_some_order.specs.VisibleUpdates.{visible_labels, elements_in}
 use Rattle.ra_some_order.specs.UpdateConditions.{value_condition, element_condition, read_conditions, conditions_of}
 use Rattle.ra_some_order.specs.PlainConditions.{IsPossibleRead, MeetsPlainConditions}
-use Rattle.ra_some_order.specs.SomeOrder.{EachLabelIsOfKind, is_decided_by_conditions}
+use Rattle.ra_some_order.specs.SomeOrder.{SomeOrderExplains, EachLabelIsOfKind, is_decided_by_conditions}
 use Rattle.ra_some_order.specs.LabelOrders.{IsOrderOfLabels, OrderExplains, Narrows}
 use Rattle.ra_some_order.proofs.TheoremIndex.{conditions_iff, label_order_explains, label_order_iff, linearization_orders_labels, narrow_condition_requires_as_much, stuck_set_is_final-plain}
 use Rattle.ra_some_order.proofs.LabelSequences.{label_below}
@@ -180,3 +180,7 @@ module _ (kind : Kind) (decided : is_decided_by_conditions kind ≡ true) (recor
       at_label label here label.op refl element
       (subst (λ k. IsRefused records (visible_labels records k) label.op element)
       (sym (eqb-true label.number n numbered)) reason)
+
+  pub not_explained : (n : ℕ) (element : Option ℕ) → IsImpossible records n element → ¬ SomeOrderExplains kind records
+  not_explained n element impossible (sequence, linearizes) =
+      impossible_refutes n element impossible sequence (linearization_by_visibility kind records sequence linearizes)

@@ -37,21 +37,21 @@ sides_of true x operation is = elim (or_cases (adds x operation) (removes x oper
 ]
 sides_of false x operation is = or_cases (adds x operation) (removes x operation) is
 
-option_sides : (listed : Bool) (x : ℕ) (operation : Option Op) → option_map_or (changes x) operation false ≡ true
+pub option_sides : (listed : Bool) (x : ℕ) (operation : Option Op) → option_map_or (changes x) operation false ≡ true
     → (option_map_or (leads (not listed) x) operation false ≡ true)
     ⊎ (option_map_or (leads listed x) operation false ≡ true)
 option_sides listed x None is = absurd (false≢true is)
 option_sides listed x (Some operation) is = sides_of listed x operation is
 
-added : (x : ℕ) (operation : Op) → leads true x operation ≡ true → operation ≡ op.LwwAdd x
+pub added : (x : ℕ) (operation : Op) → leads true x operation ≡ true → operation ≡ op.LwwAdd x
 added x (op.LwwAdd y) is = ap op.LwwAdd (sym (eqb-true x y is))
 added x _ is = absurd (false≢true is)
 
-removed : (x : ℕ) (operation : Op) → leads false x operation ≡ true → operation ≡ op.LwwRemove x
+pub removed : (x : ℕ) (operation : Op) → leads false x operation ≡ true → operation ≡ op.LwwRemove x
 removed x (op.LwwRemove y) is = ap op.LwwRemove (sym (eqb-true x y is))
 removed x _ is = absurd (false≢true is)
 
-adds_itself : (x : ℕ) (operation : Op) → operation ≡ op.LwwAdd x → changes x operation ≡ true
+pub adds_itself : (x : ℕ) (operation : Op) → operation ≡ op.LwwAdd x → changes x operation ≡ true
 adds_itself x operation is =
     ap (changes x) is ∙ or_left (adds x (op.LwwAdd x)) (removes x (op.LwwAdd x)) (eq-eqb x x refl)
 
@@ -135,7 +135,7 @@ module _ (records : Records) (operations : List Op) (listed_ops : AreListed reco
   visible = visible_labels records n
 
   each_seen : (m : ℕ) → Contains newest m → sees records n m ≡ true
-  each_seen m there = let (replica, at) = of.each m there in (are.seen x replica m at).0
+  each_seen m there = let (replica, low, at) = of.each m there in (are.seen x replica m at).0
 
   module _ (listed : Bool) where
     abbrev full : Condition

@@ -46,9 +46,9 @@ module _ (found : BTreeMap (ℕ × ℕ) ℕ) (x : ℕ) where
   newest_with bound m newest grown at is are = record {
     each =
         λ k there. elim (Contains-append_cases newest (m ∷ []) k (subst (λ ms. Contains ms k) is there)) [
-          | inl older ↦ are.each k older
+          | inl older ↦ let (replica, low, there_at) = are.each k older in (replica, omega (arith, low), there_at)
           | inr new ↦ elim (head_or_behind m [] k new) [
-            | inl here ↦ (bound, at ∙ ap Some here)
+            | inl here ↦ (bound, omega arith, at ∙ ap Some here)
             | inr further ↦ absurd (none_there k further)
           ]
         ];
@@ -65,7 +65,10 @@ module _ (found : BTreeMap (ℕ × ℕ) ℕ) (x : ℕ) where
   pub newest_without : (bound : ℕ) (newest same : List ℕ) → newest_in found x bound ≡ None → same ≡ newest
       → AreNewestOf found x bound newest → AreNewestOf found x (bound + 1) same
   newest_without bound newest same none is are = record {
-    each = λ k there. are.each k (subst (λ ms. Contains ms k) is there);
+    each =
+        λ k there.
+        let (replica, low, there_at) = are.each k (subst (λ ms. Contains ms k) is there) in
+        (replica, omega (arith, low), there_at);
     all =
         λ replica k below there. subst (λ ms. Contains ms k) (sym is) (elim (cases_eq replica bound) [
           | inl here ↦ absurd (none-some k (sym none ∙ subst (λ r. newest_in found x r ≡ Some k) here there))

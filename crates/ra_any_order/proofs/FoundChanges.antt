@@ -6,15 +6,18 @@ use Rattle.std.proofs.lemmas.Bool.{cases_eq, cases_lt, ltb-false, false≢true}
 use Rattle.ra_labels.specs.declared.operation.Op.{Op}
 use Rattle.ra_labels.specs.declared.operation.Op.TheVariants as op
 use Rattle.ra_labels.specs.declared.label.Label.{Label}
+use Rattle.ra_labels.specs.HistorySoFar.{History}
 use Rattle.ra_labels.specs.Records.{Records, label_at}
 use Rattle.ra_labels.specs.Visibility.{is_update, is_update_at, sees}
 use Rattle.ra_labels.specs.Places.{issuer_of}
 use Rattle.ra_theorems.proofs.TheoremIndex.{sees_earlier_updates-updates}
 use Rattle.ra_visibility.specs.Newest.{IsNewestSeen}
+use Rattle.ra_visibility.specs.Tracked.{Tracked}
 use Rattle.ra_any_order.specs.Previous.{IsLastBelow}
 use Rattle.ra_any_order.specs.Reading.{passes_at}
-use Rattle.ra_any_order.specs.Changes.{changes, newest_in, is_seen_by, AreNewestChanges, newer_than, IsTaken}
+use Rattle.ra_any_order.specs.Changes.{changes, newest_in, is_seen_by, AreNewestChanges, newer_than, IsTaken, AreChangesOf}
 use Rattle.ra_any_order.specs.Finding.{IsFinding, IsOfReplicaBelow, IsPast, IsReached, IsNextOf, AreFound}
+use Rattle.ra_any_order.specs.Situation.{IsHistoryOf}
 use Rattle.ra_any_order.proofs.NarrowSides.{AreListed}
 use Rattle.ra_any_order.proofs.SeenBefore.{SeesEarlierOnes}
 
@@ -219,3 +222,10 @@ pub changing_update : (records : Records) (operations : List Op) → AreListed r
     → passes_at operations (changes x) m ≡ true → is_update_at records m ≡ true
 changing_update records operations listed x m passes =
     changing_label x (label_at records m) (subst (λ o. option_map_or (changes x) o false ≡ true) (listed m) passes)
+
+pub changes_of : (tracked : Tracked) (operations : List Op) (past : History) → IsHistoryOf tracked operations past
+    → AreChangesOf tracked operations past
+changes_of tracked operations past stands = record {
+  visibility = stands.visibility;
+  updates = changing_update past.records operations stands.listed;
+}

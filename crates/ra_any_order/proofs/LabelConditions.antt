@@ -63,7 +63,7 @@ module _ (records : Records) (n : ℕ) (there : n < label_count records) (newest
         | inr further ↦ absurd (none_there c further)
       ]
 
-  seen_followed : (order : List ℕ) → Meets order ordering → (k : ℕ) → sees records n k ≡ true
+  pub seen_followed : (order : List ℕ) → Meets order ordering → (k : ℕ) → sees records n k ≡ true
       → IsFollowedBy records order k n
   seen_followed order meets k seen =
       let (m, among, later, same) = are.latest k seen in (
@@ -74,7 +74,7 @@ module _ (records : Records) (n : ℕ) (there : n < label_count records) (newest
         met_before order meets m (option_there newest previous m among),
       )
 
-  previous_followed : (order : List ℕ) → Meets order ordering → (k : ℕ) → k < n
+  pub previous_followed : (order : List ℕ) → Meets order ordering → (k : ℕ) → k < n
       → issuer_of records k ≡ issuer_of records n → IsFollowedBy records order k n
   previous_followed order meets k less same = go previous last (met_before order meets)
     where

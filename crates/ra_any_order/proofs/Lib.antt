@@ -14,5 +14,13 @@ pub mod Conclusions
 pub mod ReadOutcomes
 pub mod TurnOrders
 pub mod LaterReads
+pub mod LastMembers
+pub mod ElementLasts
+pub mod NextReads
 pub mod PossibleValues
 pub mod LastWrites
+pub mod ListOrders
+pub mod FoundElements
+pub mod SortedElements
+pub mod ElementAnswers
+pub mod ContestedElements

@@ -1,5 +1,5 @@
 -- Lemmas on the labels that conditions name: they are below the number of labels.
-use Rattle.std.proofs.Common.{ℕ, ◌<◌, Bool, List, [], ◌∷◌, ◌++◌, Option, Some, None, BTreeMap, sym, subst, inl, inr}
+use Rattle.std.proofs.Common.{ℕ, ◌<◌, Bool, List, [], ◌∷◌, ◌++◌, Option, Some, None, BTreeMap, sym, subst, inl, inr, arith}
 use Rattle.std.specs.Prelude.{◌≡◌, ◌⊎◌, not, IfSome, filter, Contains}
 use Rattle.std.proofs.lemmas.List.Elements.{Contains-get_or, Contains-append_cases}
 use Rattle.ra_labels.specs.declared.operation.Op.{Op}
@@ -10,6 +10,7 @@ use Rattle.ra_any_order.specs.Reading.{passes_at, narrow_value, with_option, ord
 use Rattle.ra_any_order.specs.Changes.{newest_in}
 use Rattle.ra_any_order.specs.Elements.{leads, AreElementsAdded}
 use Rattle.ra_any_order.specs.Requirements.{NameBelow}
+use Rattle.ra_any_order.proofs.FoundChanges.{low_earlier}
 use Rattle.ra_visibility.proofs.NewestLists.{below_more}
 
 pub names_only : (count : ℕ) (conditions : List Condition) → NameBelow count conditions → NameOnlyBelow count conditions
@@ -62,6 +63,15 @@ module _ (operations : List Op) (newest : List ℕ) (count : ℕ) (low : (m : �
     ]
   ])
 
+-- and so do the conditions with those of a read's place
+pub asked_named : (operations : List Op) (newest : List ℕ) (count : ℕ) → ((m : ℕ) → Contains newest m → m < count)
+    → (previous : Option ℕ) (n : ℕ) → IfSome previous (λ p. p < n) → n < count → (conditions : List Condition)
+    → NameBelow n conditions → NameBelow count (conditions ++ order_condition newest previous n ∷ [])
+asked_named operations newest count low previous n earlier below conditions named =
+    named_both count conditions (order_condition newest previous n ∷ [])
+    (λ condition there b side. let its = named condition there b side in omega (arith, its, below))
+    (ordering_named operations newest count low previous n (low_earlier previous n count earlier below) below)
+
 -- the conditions of elements name updates that were found
 pub elements_named : (operations : List Op) (found : BTreeMap (ℕ × ℕ) ℕ) (replicas count : ℕ) (is_listed : ℕ → Bool)
     (elements : List ℕ) (added : List Condition)
@@ -73,5 +83,5 @@ elements_named operations found replicas count is_listed elements added low are 
       | inl first ↦ (there-kept (passes_at operations (leads (not (is_listed x)) x)) newest b first).0
       | inr second ↦ (there-kept (passes_at operations (leads (is_listed x) x)) newest b second).0
     ] in
-    let (replica, at) = of.each b among in
+    let (replica, less, at) = of.each b among in
     low x replica b at

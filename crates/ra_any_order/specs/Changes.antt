@@ -4,10 +4,12 @@ use Rattle.std.specs.BTreeMap.{BTreeMap, get, Updates}
 use Rattle.ra_labels.specs.declared.operation.Op.{Op}
 use Rattle.ra_labels.specs.declared.operation.Op.TheVariants as op
 use Rattle.ra_labels.specs.Lists.{pair_cmp}
+use Rattle.ra_labels.specs.HistorySoFar.{History}
 use Rattle.ra_labels.specs.Records.{Records}
-use Rattle.ra_labels.specs.Visibility.{sees}
+use Rattle.ra_labels.specs.Visibility.{sees, is_update_at}
 use Rattle.ra_labels.specs.Places.{issuer_of}
 use Rattle.ra_some_order.specs.VisibleUpdates.{adds, removes}
+use Rattle.ra_visibility.specs.Tracked.{Tracked, IsVisibilityOf}
 use Rattle.ra_any_order.specs.declared.views.View.{View}
 use Rattle.ra_any_order.specs.Previous.{IsLastBelow}
 use Rattle.ra_any_order.specs.Reading.{passes_at}
@@ -24,6 +26,11 @@ element_of _ = None
 
 abbrev pub element_at : List Op → ℕ → Option ℕ
 element_at operations n = option_and_then element_of (slice_get operations n)
+
+-- holds if the tracker represents the visibility of the past, and only updates change elements
+pub record AreChangesOf (tracked : Tracked) (operations : List Op) (past : History) : Type 0 where
+  pub visibility : IsVisibilityOf tracked past
+  pub updates : (x m : ℕ) → passes_at operations (changes x) m ≡ true → is_update_at past.records m ≡ true
 
 -- the newest update of the element by the replica that was found
 abbrev pub newest_in : BTreeMap (ℕ × ℕ) ℕ → ℕ → ℕ → Option ℕ

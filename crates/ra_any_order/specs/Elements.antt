@@ -27,7 +27,8 @@ is_possible_element condition listed = not (length condition.after == 0) || (not
 
 -- holds if these are the newest updates of the element by the replicas below a number
 pub record AreNewestOf (found : BTreeMap (ℕ × ℕ) ℕ) (x bound : ℕ) (newest : List ℕ) : Type 0 where
-  pub each : (m : ℕ) → Contains newest m → (replica : ℕ) × (newest_in found x replica ≡ Some m)
+  pub each : (m : ℕ) → Contains newest m
+      → (replica : ℕ) × (replica < bound) × (newest_in found x replica ≡ Some m)
   pub all : (replica m : ℕ) → replica < bound → newest_in found x replica ≡ Some m → Contains newest m
 
 -- holds if each condition is that of an element, and each of these elements has one, to which some update can lead

@@ -9,4 +9,7 @@ pub mod LabelOrder
 pub mod Outcomes
 pub mod Answers
 pub mod Found
+pub mod NextRead
 pub mod PossibleValues
+pub mod PossibleElements
+pub mod Standings

@@ -3,9 +3,9 @@ ghost use Rattle.std.specs.Prelude.{◌≡◌, ◌<◌, ◌+◌, ℕ, true, Some
 ghost use Rattle.ra_labels.specs.HistorySoFar.{History};
 ghost use Rattle.ra_labels.specs.Places.{issuer_of};
 ghost use Rattle.ra_visibility.specs.Tracked.{labels_in, IsVisibilityOf};
-ghost use Rattle.ra_any_order.specs.Changes.{is_seen_by, element_at, newer_than, IsViewBelow, IsTaken, IsPut, AreEarlier, ArePrevious, IsViewOf};
+ghost use Rattle.ra_any_order.specs.Changes.{is_seen_by, element_at, newer_than, IsViewBelow, IsTaken, IsPut, AreEarlier, ArePrevious, IsViewOf, AreChangesOf};
 ghost use Rattle.ra_any_order.specs.Finding.{IsFinding, IsOfReplicaBelow, AreFound};
-ghost use Rattle.ra_any_order.specs.Situation.{operations_in, IsHistoryOf};
+ghost use Rattle.ra_any_order.specs.Situation.{operations_in};
 
 use crate::operations::operation_at;
 use crate::views::View;
@@ -39,7 +39,7 @@ pub fn find_changes(
     ensures below { OnOk result (IsViewBelow (labels_in tracker.now.now) view.new) }
     ensures last { OnOk result (view.new.last ≡ Some label) }
     ensures found { IfOk result (λ changed. (past : History)
-        → IsHistoryOf tracker.now.now (operations_in operations.now) past
+        → AreChangesOf tracker.now.now (operations_in operations.now) past
         → ArePrevious past.records (labels_in tracker.now.now) previous.now
         → IsViewOf past.records (operations_in operations.now) (issuer_of past.records label) label view.old
         → AreFound past.records (operations_in operations.now) view.old.last label view.new.newest changed.items) }
@@ -76,7 +76,7 @@ fn find_of_replica(
     ensures below { OnOk result (IsViewBelow (labels_in tracker.now.now) view.new) }
     ensures last { OnOk result (view.new.last ≡ view.old.last) }
     ensures found { OnOk result ((past : History)
-        → IsHistoryOf tracker.now.now (operations_in operations.now) past
+        → AreChangesOf tracker.now.now (operations_in operations.now) past
         → ArePrevious past.records (labels_in tracker.now.now) previous.now
         → IsFinding past.records (operations_in operations.now) view.old.last label
         (IsOfReplicaBelow past.records view.old.last replica) view.old.newest changed.old.items

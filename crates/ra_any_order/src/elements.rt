@@ -7,6 +7,7 @@ ghost use Rattle.ra_any_order.specs.Changes.{list_of};
 ghost use Rattle.ra_any_order.specs.Elements.{leads, narrow_element, is_possible_element, AreNewestOf};
 ghost use Rattle.ra_any_order.specs.Reading.{passes_at};
 ghost use Rattle.ra_any_order.specs.Situation.{operations_in};
+ghost use Rattle.ra_any_order.specs.Standings.{some_leads};
 
 use crate::operations::operation_at;
 use ra_labels::{NoMemory, Op};
@@ -68,6 +69,15 @@ pub fn element_condition(
         }
     }
     Condition::new(alloc, read, &before, &after)
+}
+
+/// Returns `true` if one of the labels adds the element, if it is listed, or removes it, if not.
+pub fn some_leads(operations: &[&Op], labels: &[u32], listed: bool, element: u32) -> bool
+    ensures { result ≡ some_leads (operations_in operations.now) listed element labels.now }
+{
+    labels
+        .iter()
+        .any(|label| leads_at(operations, listed, element, *label))
 }
 
 // Returns `true` if the label adds the element, if it is listed, or removes it, if not.

@@ -7,7 +7,8 @@
 //! (`ra_some_order`).
 //!
 //! Contract for the crates above: `some_order` returns such an order, or a refutation by which no sequence at all is an
-//! RA-linearization (`specs/Answers`). `linearizes` and `refutes` check an order and a refutation.
+//! RA-linearization (`specs/Answers`). `linearizes` and `refutes` check an order and a refutation. `possible_values`
+//! and `possible_elements` return what the next read of a replica can return.
 #![tactic(auto)]
 
 mod answer;
@@ -16,17 +17,21 @@ mod checks;
 mod conditions;
 mod elements;
 mod label_order;
+mod next_elements;
 mod next_read;
 mod operations;
 mod ordering;
 mod outcome;
 mod previous;
 mod reads;
+mod seen_updates;
+mod standings;
 mod values;
 mod views;
 
 pub use answer::{AnyOrder, Refutation};
 pub use checks::{linearizes, refutes};
 pub use label_order::is_order_of_labels;
+pub use next_elements::{MOST_ASKED, PossibleElements, possible_elements};
 pub use next_read::possible_values;
 pub use ordering::some_order;

@@ -7,7 +7,8 @@ ghost use Rattle.ra_labels.specs.declared.kind.Kind.TheVariants.{Register};
 ghost use Rattle.ra_precedence.specs.Lasts.{AreLasts};
 ghost use Rattle.ra_some_order.specs.SomeOrder.{SomeOrderExplains, EachLabelIsOfKind};
 ghost use Rattle.ra_visibility.specs.Tracked.{labels_in, replicas_in, IsVisibilityOf};
-ghost use Rattle.ra_any_order.specs.PossibleValues.{IsPossibleValue, IsReadNext, IsValueAmong, AreListedIn, written_at};
+ghost use Rattle.ra_any_order.specs.NextRead.{IsReadNext, AreListedIn};
+ghost use Rattle.ra_any_order.specs.PossibleValues.{IsPossibleValue, IsValueAmong, written_at};
 ghost use Rattle.ra_any_order.specs.Previous.{IsLastBelow};
 ghost use Rattle.ra_any_order.specs.Reading.{order_condition};
 ghost use Rattle.ra_any_order.specs.Requirements.{AreConditionsBelow, NameBelow};
@@ -83,8 +84,16 @@ fn values_at(
     Ok(values)
 }
 
-// Returns the previous label of the label's replica, if there is one.
-fn label_before(alloc: Global, tracker: &Tracker, label: u32) -> Result<Option<u32>, NoMemory>
+/// Returns the previous label of the label's replica, if there is one.
+///
+/// # Errors
+///
+/// `NoMemory` if allocation fails.
+///
+/// # Complexity
+///
+/// O(n), where `n` is the number of labels and replicas.
+pub fn label_before(alloc: Global, tracker: &Tracker, label: u32) -> Result<Option<u32>, NoMemory>
     requires { label < labels_in tracker.now.now }
     ensures earlier { IfOk result (λ previous. IfSome previous (λ it. it < label)) }
     ensures last { IfOk result (λ previous. (past : History) → IsVisibilityOf tracker.now.now past
@@ -94,8 +103,12 @@ fn label_before(alloc: Global, tracker: &Tracker, label: u32) -> Result<Option<u
     Ok(previous[label as usize])
 }
 
-// Adds the condition that the read comes after these labels.
-fn with_order(
+/// Adds the condition that the read comes after these labels.
+///
+/// # Errors
+///
+/// `NoMemory` if allocation fails.
+pub fn with_order(
     alloc: Global,
     conditions: Vec<Condition>,
     newest: &[u32],

@@ -275,7 +275,8 @@ fn crossed_updates(alloc: Global) -> Result<Vec<Event>, NoMemory> {
     ]?)
 }
 
-fn read_of(alloc: Global, elements: &[u32]) -> Result<Op, NoMemory> {
+/// Returns a read of the elements.
+pub fn read_of(alloc: Global, elements: &[u32]) -> Result<Op, NoMemory> {
     Ok(Op::LwwRead(Elements::new(elements.to_vec(alloc)?)))
 }
 

@@ -6,7 +6,7 @@ use Rattle.ra_any_order.specs.Changes.{newer_than}
 use Rattle.ra_any_order.specs.Finding.{IsFinding, IsOfReplicaBelow, IsReached, IsNextOf}
 use Rattle.ra_any_order.specs.Situation.{operations_in}
 use Rattle.ra_any_order.proofs.SeenBefore.{earlier_seen, earlier_seen_by}
-use Rattle.ra_any_order.proofs.FoundChanges.{reach_other, reach_first, next_first, reach_end, reach_previous, next_previous, next_newer, reach_newer, take_more, low_newer, low_earlier, low_taken, changing_update}
+use Rattle.ra_any_order.proofs.FoundChanges.{reach_other, reach_first, next_first, reach_end, reach_previous, next_previous, next_newer, reach_newer, take_more, low_newer, low_earlier, low_taken}
 use Rattle.ra_any_order.proofs.changes.find_of_replica.Goals as goal
 
 pub loop-next-init : goal.loop-next-init
@@ -69,7 +69,7 @@ loop-next-preserved c =
           let (issued, (o, o_seen, o_issued, less)) = subst (IsNextOf past.records n r) c.in-Some.is (kept.next past stands previous) in
           let seen : (x : ℕ) → _ → sees past.records n m ≡ true = λ x passes.
           earlier_seen c.args.tracker.now.now past stands.visibility n c.requires.label m o o_seen less (issued ∙ sym o_issued)
-          (changing_update past.records ops stands.listed x m passes) in
+          (stands.updates x m passes) in
           subst (λ p. IsFinding past.records ops last n (IsReached past.records last r p) new after)
           (sym c.newer_than-next-in-Some.ensures)
           (reach_other past.records ops last n (λ k. IsReached past.records last r (Some m) k ⊎ (k ≡ m))

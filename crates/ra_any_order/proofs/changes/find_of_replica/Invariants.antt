@@ -3,9 +3,9 @@ use Rattle.std.specs.Prelude.{IfSome}
 use Rattle.std.specs.Option.{option_map_or}
 use Rattle.ra_labels.specs.HistorySoFar.{History}
 use Rattle.ra_visibility.specs.Tracked.{labels_in}
-use Rattle.ra_any_order.specs.Changes.{IsViewBelow, ArePrevious}
+use Rattle.ra_any_order.specs.Changes.{IsViewBelow, ArePrevious, AreChangesOf}
 use Rattle.ra_any_order.specs.Finding.{IsFinding, IsOfReplicaBelow, IsReached, IsNextOf}
-use Rattle.ra_any_order.specs.Situation.{operations_in, IsHistoryOf}
+use Rattle.ra_any_order.specs.Situation.{operations_in}
 use Rattle.ra_any_order.proofs.changes.find_of_replica.Given as goal
 
 abbrev pub decreases-loop-next : goal.decreases-loop-next
@@ -16,10 +16,10 @@ invariant-loop-next l = record {
   last : l.view.last ≡ l.fn.view.last;
   below : IsViewBelow (labels_in l.tracker.now) l.view;
   low : IfSome l.next (λ m. m < labels_in l.tracker.now);
-  next : (past : History) → IsHistoryOf l.tracker.now (operations_in l.operations) past
+  next : (past : History) → AreChangesOf l.tracker.now (operations_in l.operations) past
       → ArePrevious past.records (labels_in l.tracker.now) l.previous
       → IsNextOf past.records l.label l.replica l.next;
-  found : (past : History) → IsHistoryOf l.tracker.now (operations_in l.operations) past
+  found : (past : History) → AreChangesOf l.tracker.now (operations_in l.operations) past
       → ArePrevious past.records (labels_in l.tracker.now) l.previous
       → IsFinding past.records (operations_in l.operations) l.fn.view.last l.label
       (IsOfReplicaBelow past.records l.fn.view.last l.replica) l.fn.view.newest l.fn.changed.items

@@ -1,20 +1,17 @@
 use Rattle.std.proofs.Common.{◌∙◌, None, refl, sym, subst}
 use Rattle.ra_labels.specs.HistorySoFar.{next_operation}
-use Rattle.ra_labels.specs.declared.operation.Op.TheVariants as op
-use Rattle.ra_theorems.proofs.TheoremIndex.{linearization_by_visibility}
 use Rattle.ra_some_order.specs.SomeOrder.{SomeOrderExplains, EachLabelIsOfKind}
 use Rattle.ra_visibility.specs.Tracked.{labels_in}
 use Rattle.ra_any_order.specs.Found.{IsFound, NamesBelow}
 use Rattle.ra_any_order.specs.Requirements.{AreConditionsBelow, NameBelow}
-use Rattle.ra_any_order.proofs.Conclusions.{impossible_refutes}
+use Rattle.ra_any_order.proofs.Conclusions.{not_explained}
 use Rattle.ra_any_order.proofs.next_read.possible_values.Goals as goal
 
 pub returns-in_default : goal.returns-in_default
-returns-in_default c = λ past stands register some v.
+returns-in_default c = λ past stands register explained v.
     let impossible = subst (IsFound past.records) c.in_default.is (c.in_ok-conditions.ensures.found past stands) in
-    let (sequence, linearizes) = subst (λ k. SomeOrderExplains k past.records) (sym register) some in
-    absurd (impossible_refutes past.kind stands.kind past.records stands.of_kind c.in_default.field-0 c.in_default.field-1
-    impossible sequence (linearization_by_visibility past.kind past.records sequence linearizes))
+    absurd (not_explained past.kind stands.kind past.records stands.of_kind c.in_default.field-0 c.in_default.field-1
+    impossible (subst (λ k. SomeOrderExplains k past.records) (sym register) explained))
 
 pub values_at-requires-clause-named : goal.values_at-requires-clause-named
 values_at-requires-clause-named c =
@@ -28,5 +25,5 @@ returns c = λ past stands register some v.
     (subst (IsFound past.records) c.in-Conditions.is (c.in_ok-conditions.ensures.found past stands)) in
     c.in_ok-values.ensures past c.args.replica number
     (subst (λ k. EachLabelIsOfKind k past.records) register stands.of_kind)
-    (λ value. c.in_ok-read.ensures.stands past (next_operation c.args.replica (op.Last value) None) stands.visibility refl refl)
+    (λ it reads. c.in_ok-read.ensures.stands past (next_operation c.args.replica it None) stands.visibility refl reads)
     stands.listed kept some v

@@ -2,6 +2,7 @@ use Rattle.std.proofs.Common.{sym, ap, ◌∙◌, inl, inr}
 use Rattle.ra_labels.specs.Lists.{is_among}
 use Rattle.ra_any_order.specs.Situation.{operations_in}
 use Rattle.ra_any_order.proofs.AddedElements.{changed_checked, flips_checked, found_wider}
+use Rattle.ra_any_order.proofs.FoundChanges.{changes_of}
 use Rattle.ra_any_order.proofs.reads.elements_of.Goals as goal
 
 pub returns-clause-found : goal.returns-clause-found
@@ -11,7 +12,8 @@ returns-clause-found c = λ past stands previous view.
     c.find_changes.new.view.newest changed c.push_others-2.new.found.items
     (changed_checked c.args.listed.now c.in_ok-set_of.field-0 c.list_of.result.now c.list_of-last.result.now changed
     c.push_others.new.found.items c.push_others-2.new.found.items c.in_ok-push_others.ensures c.in_ok-push_others-2.ensures)
-    (c.in_ok-elements.ensures.found past stands previous view)
+    (c.in_ok-elements.ensures.found past (changes_of c.args.tracker.now.now (operations_in c.args.operations.now) past stands)
+    previous view)
 
 pub returns-clause-listed : goal.returns-clause-listed
 returns-clause-listed c = λ x.
