@@ -11,10 +11,13 @@ pub mod SortedSlots
 pub mod Climbing
 pub mod Marking
 pub mod TreeWays
+pub mod SearchBounds
+pub mod PairLists
 pub mod NeighborLists
 pub mod SeenUpdates
 pub mod ListPlaces
 pub mod TakenUpdates
+pub mod ListedElements
 pub mod ListedViews
 pub mod ReadFaults
 pub mod ReadDemands
@@ -22,3 +25,5 @@ pub mod ReadSteps
 pub mod Reasons
 pub mod CompleteCounts
 pub mod Conclusions
+pub mod NextReads
+pub mod NearestLists

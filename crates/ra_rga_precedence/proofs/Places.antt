@@ -1,5 +1,5 @@
 -- Lemmas on the places of labels in an order.
-use Rattle.std.proofs.Common.{◌≡◌, ℕ, zero, suc, ◌<◌, List, [], ◌∷◌, length, get_or, sym, subst, ◌∙◌, inl, inr, arith}
+use Rattle.std.proofs.Common.{◌≡◌, ℕ, zero, suc, ◌<◌, List, [], ◌∷◌, length, get_or, refl, sym, subst, ◌∙◌, inl, inr, arith}
 use Rattle.std.specs.Prelude.{Contains}
 use Rattle.std.proofs.lemmas.Grind.{get_or_default_zero}
 use Rattle.std.proofs.lemmas.List.Elements.{Contains-get_or}
@@ -42,3 +42,11 @@ places_of (x ∷ xs) a b (inr further) =
       record { within = omega (arith, first_low); here = first.here },
       record { within = omega (arith, second_low); here = second.here },
     )
+
+-- of two places the elements come in this order
+pub before_at : (xs : List ℕ) (i j : ℕ) → i < j → j < length xs → IsBefore xs (get_or xs i 0) (get_or xs j 0)
+before_at [] i j less within = absurd (omega (arith, within))
+before_at (x ∷ xs) zero zero less within = absurd (omega (arith, less))
+before_at (x ∷ xs) zero (suc j) less within = inl (refl, Contains-get_or xs j 0 (omega (arith, within)))
+before_at (x ∷ xs) (suc i) zero less within = absurd (omega (arith, less))
+before_at (x ∷ xs) (suc i) (suc j) less within = inr (before_at xs i j (omega (arith, less)) (omega (arith, within)))

@@ -4,6 +4,8 @@ use Rattle.std.specs.Ordering.{nat_cmp}
 use Rattle.std.specs.BTreeMap.{get}
 use Rattle.ra_labels.specs.declared.operation.Op.{Op}
 use Rattle.ra_labels.specs.Records.{Records, label_count}
+use Rattle.ra_rga_precedence.specs.declared.ordering.Demands.{Demands}
+use Rattle.ra_rga_precedence.specs.declared.ordering.Demands.TheVariants as demands
 use Rattle.ra_rga_precedence.specs.declared.ordering.Foundation.{Foundation}
 use Rattle.ra_rga_precedence.specs.declared.ordering.Foundation.TheVariants.{Sound, Refuted}
 use Rattle.ra_rga_precedence.specs.UpdateConditions.{AreUpdateConditions, NameBelow}
@@ -21,3 +23,8 @@ abbrev pub IsFoundation : Records → Foundation → Type 0
 IsFoundation records (Sound insertions conditions) =
     AreUpdateConditions records insertions.needed.items (label_count records) conditions.items
 IsFoundation records (Refuted reason) = IsReason records reason
+
+-- the conditions alone, or the reason
+abbrev pub demands_in : Foundation → Demands
+demands_in (Sound insertions conditions) = demands.Conditions conditions
+demands_in (Refuted reason) = demands.Refuted reason

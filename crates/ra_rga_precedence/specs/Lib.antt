@@ -13,3 +13,6 @@ pub mod Neighbors
 pub mod Reads
 pub mod Answers
 pub mod Foundations
+pub mod Pairs
+pub mod Beginnings
+pub mod Nearest

@@ -8,10 +8,13 @@
 //!
 //! Contract for the crates above: `demands_of` returns such conditions, or a refutation by which no sequence at all is
 //! an RA-linearization; `some_order` returns an order in which the parts of all labels are one, or a refutation
-//! (`specs/Answers`). `meets_demands` and `refutes` check an order and a refutation.
+//! (`specs/Answers`). `meets_demands` and `refutes` check an order and a refutation. `nearest_list` returns an answer
+//! of a replica's next read that some order explains (`specs/Nearest`).
 #![tactic(auto)]
 
 mod answer;
+mod arrangement;
+mod beginning;
 mod checks;
 mod complete;
 mod demands;
@@ -19,17 +22,25 @@ mod inserters;
 mod insertions;
 mod label_order;
 mod marks;
+mod nearest;
 mod needs;
 mod neighbors;
+mod next_read;
 mod operations;
 mod ordering;
+mod pairs;
 mod ranks;
 mod reads;
 mod relations;
+mod reported;
+mod turned;
+mod undecided;
 mod update_conditions;
 mod view;
 
 pub use answer::{AnyOrder, Refutation};
 pub use checks::{meets_demands, refutes};
 pub use complete::complete_counts;
+pub use nearest::{NearestList, nearest_list};
 pub use ordering::{Demands, demands_of, some_order};
+pub use undecided::MOST_ASKED;

@@ -45,8 +45,12 @@ pub fn add_neighbors(
     Ok(None)
 }
 
-// Returns the condition of a read that one label stands before another one.
-fn edge(alloc: Global, read: u32, first: u32, second: u32) -> Result<Condition, NoMemory>
+/// Returns the condition of a read that one label stands before another one.
+///
+/// # Errors
+///
+/// `NoMemory` if allocation fails.
+pub fn edge(alloc: Global, read: u32, first: u32, second: u32) -> Result<Condition, NoMemory>
     ensures { IfOk result (λ condition. condition ≡ edge first second) }
 {
     Condition::new(alloc, read, &[first], &[second])

@@ -3,7 +3,7 @@ ghost use Rattle.std.specs.Prelude.{◌≡◌, IfOk, length};
 ghost use Rattle.ra_labels.specs.HistorySoFar.{History};
 ghost use Rattle.ra_visibility.specs.Tracked.{labels_in};
 ghost use Rattle.ra_rga_precedence.specs.Answers.{AreDemands, DemandsName, IsAnswer};
-ghost use Rattle.ra_rga_precedence.specs.Foundations.{IsFoundation, FoundationNames};
+ghost use Rattle.ra_rga_precedence.specs.Foundations.{IsFoundation, FoundationNames, demands_in};
 ghost use Rattle.ra_rga_precedence.specs.Situation.{operations_in, IsHistoryOf};
 
 use crate::answer::{AnyOrder, Refutation};
@@ -28,12 +28,12 @@ pub enum Demands {
     Refuted(Refutation),
 }
 
-// What is known of the insertions, and the conditions of the updates.
+/// What is known of the insertions, and conditions.
 #[derive(Drop)]
-enum Foundation {
-    // The insertions and the conditions.
+pub enum Foundation {
+    /// The insertions and the conditions.
     Sound(Insertions, Vec<Condition>),
-    // No order does, for this reason.
+    /// No order explains the records, for this reason.
     Refuted(Refutation),
 }
 
@@ -93,13 +93,38 @@ pub fn demands_of(alloc: Global, tracker: &Tracker, operations: &[&Op]) -> Resul
     ensures demands { IfOk result (λ demands. (past : History)
         → IsHistoryOf tracker.now.now (operations_in operations.now) past → AreDemands past.records demands) }
 {
+    match demands_with_insertions(alloc, tracker, operations)? {
+        Foundation::Sound(_, conditions) => Ok(Demands::Conditions(conditions)),
+        Foundation::Refuted(reason) => Ok(Demands::Refuted(reason)),
+    }
+}
+
+/// Returns the conditions of `demands_of`, and what is known of the insertions.
+///
+/// # Errors
+///
+/// `NoMemory` if allocation fails.
+///
+/// # Complexity
+///
+/// That of `demands_of`.
+pub fn demands_with_insertions(
+    alloc: Global,
+    tracker: &Tracker,
+    operations: &[&Op],
+) -> Result<Foundation, NoMemory>
+    ensures named { IfOk result (FoundationNames (operations_in operations.now) (labels_in tracker.now.now)) }
+    ensures demands { IfOk result (λ foundation. (past : History)
+        → IsHistoryOf tracker.now.now (operations_in operations.now) past
+        → AreDemands past.records (demands_in foundation)) }
+{
     let (insertions, mut conditions) = match foundation_of(alloc, tracker, operations)? {
         Foundation::Sound(insertions, conditions) => (insertions, conditions),
-        Foundation::Refuted(reason) => return Ok(Demands::Refuted(reason)),
+        Foundation::Refuted(reason) => return Ok(Foundation::Refuted(reason)),
     };
     match add_reads(&mut conditions, alloc, &insertions, tracker, operations)? {
-        Some(reason) => Ok(Demands::Refuted(reason)),
-        None => Ok(Demands::Conditions(conditions)),
+        Some(reason) => Ok(Foundation::Refuted(reason)),
+        None => Ok(Foundation::Sound(insertions, conditions)),
     }
 }
 

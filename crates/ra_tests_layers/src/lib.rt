@@ -15,6 +15,10 @@ mod effects;
 #[cfg(test)]
 mod first_reads;
 #[cfg(test)]
+mod nearest_lists;
+#[cfg(test)]
+mod next_elements;
+#[cfg(test)]
 mod next_reads;
 #[cfg(test)]
 mod order;
