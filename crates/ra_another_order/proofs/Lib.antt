@@ -3,3 +3,4 @@ pub mod ListedOperations
 pub mod Extents
 pub mod KnownExtents
 pub mod SearchedExtents
+pub mod WrittenValues

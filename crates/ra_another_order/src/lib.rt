@@ -19,12 +19,16 @@ mod known;
 mod labels;
 mod operations;
 mod opinion;
+mod possible;
 mod question;
 mod reasons;
 mod search;
+mod values;
 
 pub use answer::{Answer, Reason};
 pub use checks::{linearizes, refutes};
 pub use extent::Extent;
 pub use opinion::{SecondOpinion, second_opinion};
+pub use possible::{PossibleAnswers, possible_answers};
 pub use question::another_order;
+pub use values::PossibleValues;

@@ -1,4 +1,5 @@
 pub mod Places
+pub mod PossibleAnswers
 pub mod Origin
 pub mod LabelFilter
 pub mod Changes

@@ -7,6 +7,7 @@ ghost use Rattle.ra_explain.specs.Explanation.{AreNone, IsFound, IsReport, HoldW
 ghost use Rattle.ra_explain.specs.Opinions.{HasOpinion, KnowsList};
 ghost use Rattle.ra_explain.specs.Origin.{operation_of, origin_of};
 ghost use Rattle.ra_explain.specs.Places.{places_in};
+ghost use Rattle.ra_explain.specs.PossibleAnswers.{HasPossible};
 ghost use Rattle.ra_explain.specs.Rejected.{first_rejected};
 
 use crate::certificate::Claim;
@@ -18,7 +19,7 @@ use crate::rejected::first_rejected;
 use crate::remedies::Remedies;
 use crate::undelivered::{Undelivered, undelivered_at_end};
 use crate::violation::Violation;
-use ra_another_order::SecondOpinion;
+use ra_another_order::{PossibleAnswers, SecondOpinion};
 use ra_journal::Entry;
 use ra_labels::{Command, NoMemory, Op, Reply};
 use ra_monitor::{Monitor, Report, Setup};
@@ -59,6 +60,9 @@ pub struct Explanation {
     pub conflict: Option<Conflict>,
     /// What another order explains, if the violation is one of a register, an LWW set or an RGA.
     pub second_opinion: Option<SecondOpinion>,
+    /// What the violating read can return so that some order explains it with the labels before it, if the violation is
+    /// a read of a register, an LWW set or an RGA, and the query is its cause.
+    pub possible: Option<PossibleAnswers>,
     /// Why no order explains the labels up to the violation, by the second opinion. Empty if one does, or if there is
     /// no opinion. No clause states it.
     pub certificate: Vec<Claim>,
@@ -82,8 +86,8 @@ impl Explanation {
     ///
     /// One step for each entry of the log and one lookup for each label; if the purpose needs what was not delivered,
     /// one lookup for each label and replica. For a violation also the cost of the named sequence, of `Remedies::of`,
-    /// of `ra_another_order::second_opinion`, and if no order explains it of its claims; of an RGA then once more the
-    /// monitor's steps, as those of a list.
+    /// of `second_opinion` and `possible_answers` of `ra_another_order`, and if no order explains it of its claims; of
+    /// an RGA then once more the monitor's steps, as those of a list.
     pub fn of(alloc: Global, monitor: Monitor, purpose: Purpose) -> Result<Explanation, NoMemory>
         // The explanation has the setup of the given monitor.
         ensures setup { IfOk result (λ it. it.setup ≡ monitor.setup) }
@@ -118,6 +122,9 @@ impl Explanation {
         // explains.
         ensures second_opinion { IfOk result (λ it. MatchOption it.violation (it.second_opinion ≡ None) (λ violation.
             HasOpinion monitor.setup monitor.log violation.place it.second_opinion)) }
+        // The possible answers are what the violating read can return, if some order explains the labels before it.
+        ensures possible { IfOk result (λ it. MatchOption it.violation (it.possible ≡ None) (λ violation.
+            HasPossible monitor.setup monitor.log violation it.possible)) }
         // `one_list` is `Some` exactly if the violation is one of an RGA and, by the second opinion, no order of the
         // updates explains it. It is `false` if a read lists wrong elements; otherwise it is the answer of a list's
         // monitor.
@@ -142,6 +149,7 @@ impl Explanation {
         let Findings {
             conflict,
             second_opinion,
+            possible,
             certificate,
             one_list,
             remedies,
@@ -149,6 +157,7 @@ impl Explanation {
         Ok(Explanation {
             conflict,
             second_opinion,
+            possible,
             certificate,
             one_list,
             remedies,

@@ -9,9 +9,10 @@ use crate::certificate::{Claim, claims_of};
 use crate::conflict::Conflict;
 use crate::opinion::{list_answer, opinion_on};
 use crate::places::Places;
+use crate::possible::possible_at;
 use crate::remedies::Remedies;
 use crate::violation::Violation;
-use ra_another_order::SecondOpinion;
+use ra_another_order::{PossibleAnswers, SecondOpinion};
 use ra_journal::Entry;
 use ra_labels::{Cause, Command, Kind, NoMemory, Reply};
 use ra_monitor::Setup;
@@ -24,6 +25,8 @@ pub struct Findings {
     pub conflict: Option<Conflict>,
     /// What another order explains.
     pub second_opinion: Option<SecondOpinion>,
+    /// What the violating read can return so that some order explains it.
+    pub possible: Option<PossibleAnswers>,
     /// Why no order explains the labels up to the violation.
     pub certificate: Vec<Claim>,
     /// Whether the labels up to the violation hold as those of a list.
@@ -41,7 +44,7 @@ impl Findings {
     ///
     /// # Complexity
     ///
-    /// That of the parts: `Conflict::of`, `opinion_on`, `claims_of`, `list_answer` and `Remedies::of`.
+    /// That of the parts: `Conflict::of`, `opinion_on`, `claims_of`, `list_answer`, `possible_at` and `Remedies::of`.
     pub fn of(
         alloc: Global,
         setup: &Setup,
@@ -69,6 +72,7 @@ impl Findings {
         Findings {
             conflict: None,
             second_opinion: None,
+            possible: None,
             certificate: Vec::new(alloc),
             one_list: None,
             remedies: Remedies::new(alloc),
@@ -93,6 +97,7 @@ impl Findings {
             certificate: claims_of(alloc, log, places, &second_opinion)?,
             one_list: list_answer(alloc, setup, log, place, &second_opinion)?,
             second_opinion,
+            possible: possible_at(alloc, setup, log, violation)?,
             remedies: Remedies::of(alloc, setup, log, places, violation)?,
         })
     }

@@ -25,6 +25,7 @@ mod opinion;
 mod ordering;
 mod origin;
 mod places;
+mod possible;
 mod rejected;
 mod remedies;
 mod replica_state;

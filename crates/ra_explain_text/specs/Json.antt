@@ -16,6 +16,7 @@ use Rattle.ra_explain.specs.declared.violation.Violation.{Violation}
 use Rattle.ra_explain_text.specs.Certificates.{certificate_text}
 use Rattle.ra_explain_text.specs.Numbers.{label_line, line_number, size_word}
 use Rattle.ra_explain_text.specs.Opinions.{opinion_text, list_text}
+use Rattle.ra_explain_text.specs.Possible.{possible_text}
 
 -- ---- a violation
 
@@ -139,8 +140,8 @@ lacks_members names is_first (lack ∷ lacks) =
 abbrev pub answer_members : List (List ℕ) → Explanation → Option Violation → List ℕ
 answer_members names e (Some violation) =
     violation_members names violation e.remedies
-    ++ (conflict_text names e.places e.conflict ++ (opinion_text e.second_opinion
-    ++ (certificate_text e.second_opinion e.places e.certificate.items ++ list_text e.one_list)))
+    ++ (conflict_text names e.places e.conflict ++ (opinion_text e.second_opinion ++ (possible_text e.possible
+    ++ (certificate_text e.second_opinion e.places e.certificate.items ++ list_text e.one_list))))
 answer_members names e None = pass_members e.report.labels
 
 -- the object of an explanation, with a line feed

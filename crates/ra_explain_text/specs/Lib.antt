@@ -5,6 +5,7 @@ pub mod Lacks
 pub mod Rejections
 pub mod Opinions
 pub mod Certificates
+pub mod Possible
 pub mod Json
 pub mod Words
 pub mod Document

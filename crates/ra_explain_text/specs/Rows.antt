@@ -45,6 +45,7 @@ head_word head.Pairs = codes "pairs"
 head_word head.Because = codes "because"
 head_word head.And = codes "and"
 head_word head.OneList = codes "one list"
+head_word head.Possible = codes "possible"
 
 -- `true` if the head is a word, and not that of a further line
 abbrev pub has_word : Head → Bool

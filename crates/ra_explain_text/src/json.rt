@@ -5,9 +5,11 @@ ghost use Rattle.ra_explain_text.specs.Json as json;
 ghost use Rattle.ra_explain_text.specs.Certificates.{certificate_text};
 ghost use Rattle.ra_explain_text.specs.Json.{object_of};
 ghost use Rattle.ra_explain_text.specs.Opinions.{opinion_text, list_text};
+ghost use Rattle.ra_explain_text.specs.Possible.{possible_text};
 
 use crate::json_certificate::put_certificate;
 use crate::json_conflict::put_conflict;
+use crate::json_possible::put_possible;
 use crate::layout::{put, put_size};
 use crate::opinion::put_opinion_members;
 use crate::quotes::{put_line_number, put_name};
@@ -60,19 +62,22 @@ fn put_pass(out: &mut Vec<u8>, labels: u32) -> Result<(), NoMemory>
     put_numbered(out, b"{\"answer\":\"yes\",\"labels\":", labels)
 }
 
-// Appends the violation, the conflict if it is one by the order of a list, and whether another order explains it.
+// Appends the violation, the conflict if it is one by the order of a list, whether another order explains it, and what
+// the read can return.
 fn put_no(out: &mut Vec<u8>, view: &View<'_>, violation: &Violation) -> Result<(), NoMemory>
     ensures { OnOk result (out.new.items ≡ out.old.items
         ++ (json.violation_members view.now.names.now violation.now view.now.explanation.now.remedies
         ++ (json.conflict_text view.now.names.now view.now.explanation.now.places view.now.explanation.now.conflict
         ++ (opinion_text view.now.explanation.now.second_opinion
+        ++ (possible_text view.now.explanation.now.possible
         ++ (certificate_text view.now.explanation.now.second_opinion view.now.explanation.now.places
-        view.now.explanation.now.certificate.items ++ list_text view.now.explanation.now.one_list))))) }
+        view.now.explanation.now.certificate.items ++ list_text view.now.explanation.now.one_list)))))) }
 {
     let it = view.explanation;
     put_violation(out, view, violation)?;
     put_conflict(out, view.names, &it.places, &it.conflict)?;
     put_opinion_members(out, &it.second_opinion)?;
+    put_possible(out, &it.possible)?;
     put_certificate(out, &it.second_opinion, &it.places, &it.certificate)?;
     put(out, list_member(it.one_list))
 }

@@ -123,8 +123,12 @@ fn put_optional(out: &mut Vec<u8>, number: Option<u32>) -> Result<(), NoMemory>
     }
 }
 
-// Appends the numbers, separated by commas.
-fn put_listed(out: &mut Vec<u8>, numbers: &[u32]) -> Result<(), NoMemory>
+/// Appends the numbers, separated by commas.
+///
+/// # Errors
+///
+/// `NoMemory` if an allocation fails.
+pub fn put_listed(out: &mut Vec<u8>, numbers: &[u32]) -> Result<(), NoMemory>
     ensures { OnOk result (out.new.items ≡ out.old.items ++ certificates.numbers_value numbers.now) }
 {
     match numbers.split_first() {

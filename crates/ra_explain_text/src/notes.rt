@@ -62,6 +62,8 @@ pub enum Head {
     And,
     /// Whether the labels of an RGA hold as those of a list.
     OneList,
+    /// What a read can return so that some order explains it.
+    Possible,
 }
 
 /// A line of a page: its head, and a text of printable bytes.
@@ -175,7 +177,8 @@ fn has_word(head: Head) -> bool
         | Head::Pairs
         | Head::Because
         | Head::And
-        | Head::OneList => true,
+        | Head::OneList
+        | Head::Possible => true,
     }
 }
 
@@ -209,5 +212,6 @@ fn word_of(head: Head) -> &'static str
         Head::Because => "because",
         Head::And => "and",
         Head::OneList => "one list",
+        Head::Possible => "possible",
     }
 }

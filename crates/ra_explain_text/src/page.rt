@@ -10,6 +10,7 @@ use crate::layout::{put, put_count, put_cut_line, put_row};
 use crate::notes::{Note, put_notes};
 use crate::opinion::put_opinion;
 use crate::pass::put_undelivered;
+use crate::possible::add_possible;
 use crate::query::add_query;
 use crate::quotes::{put_act, put_line};
 use crate::rejected::put_rejections;
@@ -215,6 +216,7 @@ fn add_reasons(notes: &mut Vec<Note>, view: &View<'_>) -> Result<(), NoMemory> {
     let Some(violation) = &view.explanation.violation else {
         return Ok(());
     };
+    add_possible(notes, view, violation)?;
     add_certificate(notes, view)?;
     match violation.fault.cause {
         Cause::Query => add_query(notes, view, violation)?,

@@ -10,10 +10,11 @@ use ra_explain::{Difference, Violation, operation_in};
 use ra_history_lines::number::put_number;
 use ra_labels::{Command, NoMemory, Op};
 
-/// The index from which the neighbours of an element are shown, and the number of neighbours before it.
-const FAR: usize = 8;
+/// The index from which only the neighbours of an element are shown.
+pub const FAR: usize = 8;
 
-const BEFORE: usize = 3;
+/// The number of neighbours that are shown before it.
+pub const BEFORE: usize = 3;
 
 /// Adds the first difference between the reported and the expected result; or, if no result is possible, the obstacle.
 pub fn add_query(

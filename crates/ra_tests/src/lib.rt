@@ -28,6 +28,8 @@ mod lists;
 #[cfg(test)]
 mod or_sets;
 #[cfg(test)]
+mod possible_answers;
+#[cfg(test)]
 mod reported;
 #[cfg(test)]
 mod room;
