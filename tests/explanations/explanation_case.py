@@ -41,6 +41,8 @@ class Case:
         self.cycle, self.held = [], None
         # And its own claims by which no order explains the violation (explanation_certificates.py).
         self.claims = []
+        # And what it says that the read can return (explanation_possible.py).
+        self.possible = None
 
     # Lines.
 

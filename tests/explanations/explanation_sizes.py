@@ -23,6 +23,11 @@ TIMES, TIMES_MEMORY, TURNS = 4, 1.5, 5
 # The same if it searches how far another order explains the labels: it asks about a few prefixes, and not about one for
 # each bit of their number.
 TIMES_SEARCH = 7
+# The same if a list is read the other way round: the longest beginning that some order allows takes a question for each
+# bit of its length.
+TIMES_NEAREST = 40
+# The elements of long lists, and of how many elements of a set it is asked whether a read can list them.
+ELEMENTS, MOST_ASKED = 20_000, 16
 # What no read of these histories answers.
 WRONG = {"counter": "-77777", "register": "none", "lwwset": "-", "orset": "-", "rga": "-"}
 # The update with this number, behind the one before.
@@ -205,6 +210,35 @@ def look_at_search(program, kind):
     require(found == (True, late, late + 6), kind, found)
 
 
+def look_at_reversed(program):
+    """A read that lists all elements the other way round, behind one that lists them as they are."""
+    made = History("rga", "ab")
+    for number in range(1, ELEMENTS + 1):
+        made.does("a", f"after 0 {number} @{number}")
+    made.gets("b", range(ELEMENTS))
+    made.does("b", f"read {listed(range(ELEMENTS, 0, -1))}")
+    made.does("b", f"read {listed(range(1, ELEMENTS + 1))}")
+    told = require_soon(program, made.text(), times=TIMES_NEAREST)
+    wanted = {"nearest": [*range(ELEMENTS, 0, -1)], "kept": 1, "undecided": []}
+    require(told["possible"] == wanted, "nearest", told["possible"]["kept"], told["possible"]["undecided"])
+
+
+def look_at_contested(program):
+    """A set of which one replica adds each element while the other one removes it: a few are asked about, the wrong one
+    first."""
+    made = History("lwwset", "ab")
+    for number in range(1, ELEMENTS + 1):
+        added = made.does("a", f"add {number} @{2 * number}")
+        removed = made.does("b", f"remove {number} @{2 * number + 1}")
+        made.gets("a", [removed])
+        made.gets("b", [added])
+    made.does("b", f"read {ELEMENTS}")
+    told = require_soon(program, made.text(), times=TIMES_SEARCH)
+    asked = [*range(1, MOST_ASKED), ELEMENTS]
+    wanted = {"listed": [], "undecided": asked, "unasked": [*range(MOST_ASKED, ELEMENTS)]}
+    require(told["possible"] == wanted, "possible", told["possible"]["listed"], told["possible"]["undecided"])
+
+
 def look_at_full(program):
     """One command more than there may be."""
     text = b"RAH 1 counter\nreplicas a\n" + b"verdict\n" * 1_048_576 + b"a inc\n"
@@ -222,6 +256,8 @@ def looks(program):
         yield f"a long history of {kind}", look_at_long, program, kind
     for kind in STAMPED:
         yield f"how far another order explains a {kind}", look_at_search, program, kind
+    yield "a list that is reversed", look_at_reversed, program
+    yield "a set of which each element is undecided", look_at_contested, program
     yield "a full text", look_at_full, program
     yield "a late report", look_at_late_report, program
     yield "many that lack", look_at_many_that_lack, program

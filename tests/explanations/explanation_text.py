@@ -10,6 +10,7 @@ from explanation_case import element_of
 from explanation_lists import is_by_order, rows_of_order, rows_of_query, rows_of_update
 from explanation_certificates import rows_of_claims
 from explanation_orders import words_of_list, words_of_orders
+from explanation_possible import row_of_possible
 from explanation_unordered import EXPECTED, rows_of_read
 from explanation_unordered import REASONS as REASONS_OF_READS
 
@@ -183,6 +184,8 @@ def words_of_violation(case):
     if case.opinion:
         yield from itertools.islice(reasons, 1 if case.cause == "query" else 0)
         yield headed("other orders", words_of_orders(case, case.opinion))
+        if case.possible is not None:
+            yield headed(*row_of_possible(case))
         yield from (headed(*row) for row in rows_of_claims(case))
         if case.one_list is not None:
             yield headed("one list", words_of_list(case))

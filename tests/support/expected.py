@@ -308,6 +308,29 @@ def in_front(count):
     return history
 
 
+def under_one_element(count):
+    """a adds one element under `count` identifiers and another one under one, and reads after each addition."""
+    history = History("orset")
+    history.does("a", "add 2 #0")
+    for number in range(1, count + 1):
+        history.does("a", f"add 1 #{number}")
+        history.does("a", f"read {listed([1, 2])}")
+    return history
+
+
+def far_clocks(kind, count):
+    """Of a register or an RGA, b makes one update, a `count`, with lower stamps, and c one with the lowest. None receives
+    any. Then c reads `count` times, so that its labels stand before all of a's, which stand before b's."""
+    history, body = History(kind), {**UPDATES, **TYPED}[kind]
+    history.does("b", body.format(count + 2, 0))
+    for clock in range(2, count + 2):
+        history.does("a", body.format(clock, 0 if clock == 2 else clock - 1))
+    history.does("c", body.format(1, 0))
+    for _ in range(count):
+        history.does("c", "read 1")
+    return history
+
+
 class Typing:
     """Each element is put in behind the one before. Now and then one is taken out of sight."""
 
