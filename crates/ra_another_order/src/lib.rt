@@ -8,7 +8,8 @@
 //! Contract for the crates above: `another_order` returns an order that explains the labels, or a reason why no
 //! sequence at all is an RA-linearization (`specs/Answers`). `second_opinion` returns this answer about the labels up
 //! to a violation, and the longest prefix of all labels that some order explains (`specs/Opinions`, `specs/Extent`).
-//! `linearizes` and `refutes` check an order and a reason.
+//! `linearizes` and `refutes` check an order and a reason. `possible_answers` returns what the next read can return so
+//! that some order explains it (`specs/PossibleAnswers`).
 #![tactic(auto)]
 
 mod answer;

@@ -3,7 +3,8 @@
 //! The contract for the layers above: `Explanation::of` consumes a monitor and returns its log, what was not delivered,
 //! and the first violation with its reasons and remedies (`specs/Explains`). The expected answer is computed from the
 //! log, the named sequence and the plain specification (`ra_seqspec`), without a second witness (`specs/Expected`).
-//! Whether another order explains the violation is asked of `ra_another_order` (`specs/Opinions`).
+//! Whether another order explains the violation, and what its read can return, is asked of `ra_another_order`
+//! (`specs/Opinions`, `specs/PossibleAnswers`).
 //! Remedies are changes of deliveries with which a trial of `ra_monitor` accepts the label (`specs/Changes`).
 //! `labels_with` returns the labels of one sort among those of a log.
 #![tactic(auto)]
