@@ -6,12 +6,11 @@ cycle is required by its label, no cycle is shorter, and the line holds with the
 from itertools import combinations
 
 from assertions import require
+from explanation_elements import elements_words
 from list_order import edges_of
 
 # The most steps of a cycle, and the most elements of one sort, that have a line each.
 MOST_STEPS_SHOWN, MOST_ELEMENTS_SHOWN = 12, 3
-# The most elements on one line.
-MOST_ELEMENTS_LISTED = 8
 RULE = "one order of all elements explains every read and every insertion"
 # What is expected of an operation without another answer.
 EXPECTED = {
@@ -174,13 +173,7 @@ def rows_of_query(case):
     yield from row_of_others(more)
     repeated = sorted({it for it in reported if reported.count(it) > 1})
     if repeated:
-        yield "repeats", f"{front_of(repeated)}: each element may be shown once"
-
-
-def front_of(elements):
-    """The first eight elements, and the number of the others."""
-    others = len(elements) - MOST_ELEMENTS_LISTED
-    return ",".join(map(str, elements[:MOST_ELEMENTS_LISTED])) + (f" and {others} more" if others > 0 else "")
+        yield "repeats", f"{elements_words(repeated)}: each element may be shown once"
 
 
 def row_of_shown(case, element):

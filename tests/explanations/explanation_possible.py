@@ -1,5 +1,5 @@
 """What the violating read of a register, an LWW set or an RGA can return so that some order explains it, as the model
-has it. Where there are few answers each is tried; where there are many, conditions on the order stand for them."""
+has it. Where there are few answers each is tried; where there are many, conditions on the order decide."""
 from itertools import combinations, permutations
 
 from any_order import (
@@ -14,13 +14,14 @@ from any_order import (
     wrong_query_of_rga,
 )
 from assertions import require
+from explanation_elements import BEFORE, FAR, elements_words, first_difference
 from specification import put_in
 
 ASKED = ("register", "lwwset", "rga")
 # The most elements of which all lists are tried, and the most questions that the program asks.
 MOST_OF_SET, MOST_OF_LIST, MOST_ASKED = 6, 5, 16
-# The most values and elements that a page shows, and the place from which on it shows those near a difference.
-MOST_SHOWN, FAR, BEFORE = 8, 8, 3
+# The most values that a page shows.
+MOST_VALUES = 8
 
 
 def is_asked(case):
@@ -99,7 +100,7 @@ def require_elements(case, told):
 # RGA.
 
 
-def told_in(case):
+def reported_in(case):
     """The elements that the read returned and can return, each at its first place."""
     shown = shown_to(case.violating, before(case))
     return [it for it in dict.fromkeys(case.violating.operation.query.given[0]) if it in shown]
@@ -136,16 +137,16 @@ def possible_lists(case):
 
 
 def beginning_of(case, lists):
-    """How many of the told elements come in their order in some list that the read can return."""
-    told = told_in(case)
+    """How many of the reported elements come in their order in some list that the read can return."""
+    reported = reported_in(case)
 
     def is_kept(count):
-        pairs = list(zip(told[:count], told[1:count]))
+        pairs = list(zip(reported[:count], reported[1:count]))
         if lists is None:
-            return keeps(case, told[:count])
+            return keeps(case, reported[:count])
         return any(all(is_before(it, *pair) for pair in pairs) for it in lists)
 
-    return max(it for it in range(len(told) + 1) if is_kept(it))
+    return max(it for it in range(len(reported) + 1) if is_kept(it))
 
 
 def can_turn(case, lists, left, right):
@@ -161,7 +162,7 @@ def require_list(case, told):
     require(set(told) == {"nearest", "kept", "undecided"}, told)
     require(is_explained_with(case, tuple(nearest)), "no order explains the nearest list", told)
     require(kept == beginning_of(case, lists), "the reported elements that are kept", told)
-    pairs = list(zip(told_in(case)[:kept], told_in(case)[1:kept]))
+    pairs = list(zip(reported_in(case)[:kept], reported_in(case)[1:kept]))
     require(all(is_before(nearest, *pair) for pair in pairs), "the order of the kept elements", told)
     wanted = [it for it, pair in enumerate(zip(nearest, nearest[1:])) if can_turn(case, lists, *pair)]
     require(set(turned) <= set(wanted) and turned == sorted(set(turned)), "undecided", told, wanted)
@@ -187,17 +188,10 @@ def require_possible(case, told):
 # The row of the page.
 
 
-def listed(elements, marks=()):
-    """The first eight elements, with a bar behind each place that is marked, and the number of the others."""
-    parts = [f"{it}{'|' if at in marks else ','}" for at, it in enumerate(elements[:MOST_SHOWN])]
-    more = len(elements) - MOST_SHOWN
-    return "".join(parts)[:-1] + (f" and {more} more" if more > 0 else "")
-
-
 def words_of_values(case):
     it = case.possible
-    values = (["none"] if it["none"] else []) + [str(one) for one in it["values"][:MOST_SHOWN]]
-    more = len(it["values"]) - MOST_SHOWN
+    values = (["none"] if it["none"] else []) + [str(one) for one in it["values"][:MOST_VALUES]]
+    more = len(it["values"]) - MOST_VALUES
     values += [f"one of {more} more"] if more > 0 else []
     manner = "depending on" if len(values) > 1 else "whatever"
     return "possible", f"{' or '.join(values)}, {manner} the order of the writes"
@@ -206,27 +200,18 @@ def words_of_values(case):
 def words_of_elements(case):
     it = case.possible
     sorts = {"listed": "in each order", "undecided": "in some orders", "unasked": "not tried"}
-    words = [f"{listed(it[key])} {manner}" for key, manner in sorts.items() if it[key]]
+    words = [f"{elements_words(it[key])} {manner}" for key, manner in sorts.items() if it[key]]
     return "possible", "; ".join(words) or "no element, whatever the order of the updates"
-
-
-def difference_of(case):
-    """The first place at which the reported list and the nearest one differ."""
-    pairs = zip(case.violating.operation.query.given[0], case.possible["nearest"])
-    return next((at for at, (one, other) in enumerate(pairs) if one != other), min(
-        len(case.violating.operation.query.given[0]), len(case.possible["nearest"])
-    ))
 
 
 def words_of_list(case):
     it = case.possible
-    place = difference_of(case)
+    place = first_difference(case.violating.operation.query.given[0], it["nearest"])
     start = place - BEFORE if place >= FAR else 0
     elements = it["nearest"][start:]
-    marks = [at - start for at in it["undecided"]]
-    words = (".. " if start else "") + (listed(elements, marks) if elements else "-")
-    shown = any(0 <= at < min(len(elements) - 1, MOST_SHOWN - 1) for at in marks)
-    return "possible", f"nearest list: {words}" + (" (| either way round)" if shown else "")
+    words = elements_words(elements, [at - start for at in it["undecided"]]) or "-"
+    key = " (| either way round)" if "|" in words else ""
+    return "possible", f"nearest list: {'.. ' if start else ''}{words}{key}"
 
 
 WORDS = {"register": words_of_values, "lwwset": words_of_elements, "rga": words_of_list}

@@ -12,6 +12,7 @@ from expected import UPDATES, History, crossing
 from explanation_case import MOST_STEPS, MOST_TRIED, listed
 from explanation_drawings import MOST_BYTES
 from explanation_faults import Stop
+from explanation_possible import MOST_ASKED
 from explanation_text import cut, headed, line_of_tries, with_label
 from model import KINDS
 from program import CHECK, EXPLAIN, Program, costs
@@ -26,8 +27,8 @@ TIMES_SEARCH = 7
 # The same if a list is read the other way round: the longest beginning that some order allows takes a question for each
 # bit of its length.
 TIMES_NEAREST = 40
-# The elements of long lists, and of how many elements of a set it is asked whether a read can list them.
-ELEMENTS, MOST_ASKED = 20_000, 16
+# The elements of a list and of a set of which it is asked what a read can return.
+ELEMENTS = 20_000
 # What no read of these histories answers.
 WRONG = {"counter": "-77777", "register": "none", "lwwset": "-", "orset": "-", "rga": "-"}
 # The update with this number, behind the one before.

@@ -7,6 +7,7 @@ import itertools
 
 import model
 from explanation_case import element_of
+from explanation_elements import BEFORE, FAR, elements_words, first_difference
 from explanation_lists import is_by_order, rows_of_order, rows_of_query, rows_of_update
 from explanation_certificates import rows_of_claims
 from explanation_orders import words_of_list, words_of_orders
@@ -18,14 +19,12 @@ from explanation_unordered import REASONS as REASONS_OF_READS
 WIDEST, CUT = 100, 98
 # The number of characters before the facts of a line.
 HEAD = 16
-# The most bytes of a command's line, elements of a list, labels above a clock, and remedies that are printed.
-MOST_BYTES_OF_A_LINE, MOST_ELEMENTS, MOST_ABOVE, MOST_REMEDIES = 72, 8, 3, 5
+# The most bytes of a command's line, labels above a clock, and remedies that are printed.
+MOST_BYTES_OF_A_LINE, MOST_ABOVE, MOST_REMEDIES = 72, 3, 5
 # Of a label's line at least this number of bytes is printed, or none, where the words after it leave little room.
 LEAST_BYTES_OF_A_LINE = 8
 # The most replicas that have a line each: at a violation, and of a pass. And the most rejected lines.
 MOST_SEEN, MOST_LACKING, MOST_REJECTED = 8, 10, 10
-# From this number of equal elements on, two lists are printed once more, from this number before the difference.
-FAR, BEFORE = 8, 3
 REASONS = {
     "query": "its result does not follow from the updates that it sees.",
     "order": "its clock is not greater than each clock that it sees.",
@@ -89,11 +88,6 @@ def with_label(case, front, label, behind=""):
         most = min(room - len(" .."), MOST_BYTES_OF_A_LINE)
         quote = f"{said[:most].rstrip()} .." if most >= LEAST_BYTES_OF_A_LINE else ""
     return f"{front}{named}{': ' if quote else ''}{quote}){behind}"
-
-
-def elements_words(elements):
-    others = len(elements) - MOST_ELEMENTS
-    return ",".join(map(str, elements[:MOST_ELEMENTS])) + (f" and {others} more" if others > 0 else "")
 
 
 # A pass.
@@ -229,8 +223,7 @@ def answer_of(words):
 
 
 def words_of_two_lists(reported, right):
-    place = next((at for at, (one, other) in enumerate(zip(reported, right)) if one != other), None)
-    place = min(len(reported), len(right)) if place is None else place
+    place = first_difference(reported, right)
     was, wanted = (it[place] if place < len(it) else "the end of the list" for it in (reported, right))
     yield headed("differs", f"at position {place + 1}: got {was}, expected {wanted}")
     if place >= FAR:

@@ -53,10 +53,11 @@ pub fn possible_answers(
     // There is an answer for each read of a register or an LWW set, if the replica exists.
     ensures asked { IfOk result (λ found. is_decided_read kind read.now ≡ true
         → replica < replicas_of (reported_in kind replicas log.now) → is_some found ≡ true) }
-    // If some order explains the reported labels: the values are exactly those with which some order explains the
-    // labels and a read of the replica; each such list of an LWW set has the listed elements, some has and some has not
-    // the undecided ones, and none has others than the three lists; the list of an RGA is one, and another one has the
-    // element at an undecided place and the next one the other way round.
+    // If some order explains the reported labels, call an answer possible if some order explains them and a read of
+    // the replica that returns it. The values are exactly the possible ones. Each possible list of an LWW set has the
+    // listed elements, some have an undecided element and some have not, and none has an element of none of the three
+    // lists. The list of an RGA is possible, and another possible list has the element at an undecided place and the
+    // next one the other way round.
     ensures possible { IfOk result (λ found. IfSome found
         (ArePossible kind (reported_in kind replicas log.now).records replica)) }
 {
